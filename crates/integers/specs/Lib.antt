@@ -1,0 +1,37 @@
+-- The integers: what the rest of the project knows of ℤ. Read in this order.
+
+-- 01's numbers, by name
+pub mod Units
+-- equations of polynomials, proved in one line: `ring`, `comb`
+pub mod RingLaws
+pub mod Polynomial
+pub mod Ring
+-- inequalities, proved in one line: `lin≤`, `lin<`, `lin≡`, `lin⊥`
+pub mod Order
+pub mod Elimination
+pub mod Linear
+-- the machine's signed integers: `linfits`, comparisons, division
+pub mod Machine
+pub mod Division
+-- each of these at work
+pub mod Tour
+-- magnitude and bounds
+pub mod Magnitude
+pub mod Within
+pub mod MinMax
+-- how far past a side, and how far from the nearer side
+pub mod Clamp
+pub mod Tent
+pub mod Interpolation
+-- sums over a range, the trapezoid sum, sums over a list
+pub mod RangeSum
+pub mod Trapezoid
+pub mod ListSum
+-- the two roundings
+pub mod Rounding
+pub mod RoundHalfAway
+pub mod NearestAway
+pub mod RoundHalfUp
+-- sums of fractions, exact and rounded term by term
+pub mod Fraction
+pub mod RoundedSum

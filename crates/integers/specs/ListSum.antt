@@ -1,0 +1,85 @@
+-- Sums over a list, and a property of every element.
+--
+-- Main results
+--   all-of, all-map, all-append       of `All P l`, every element of l has the property P
+--   total-cong, total-add, total-scale, total-neg, total-append, total-const     as of any finite sum
+--   total-within                      terms bounded each by its own bound are bounded by the bounds' sum
+--   total-perm                        the order of the list does not matter
+use mathlib.Core.Path.{_≡_, refl, _∙_, ap, ap₂}
+use mathlib.Core.List.{List, [], _∷_, _++_, Perm, List·Permᴰ, List·Permᴰ·nil, List·Permᴰ·cons, List·Permᴰ·swap, List·Permᴰ·trans}
+use mathlib.Core.Logic.{∥∥₁-elim}
+use lib.ListN.{length}
+use lib.IntN.{ℤ, pos, negℤ, _+ℤ_, _*ℤ_, ℤ-set}
+use lib.Signed.{≤ℤ-refl}
+use Rattle.integers.specs.Ring.{read, ring, comb, _⊕_}
+use Rattle.integers.specs.Within.{Within, within-add, within-self}
+
+-- ---- every element has the property
+abbrev pub All : {A : Type 0} → (A → Type 0) → List A → Type 0
+All P [] = Unit {0}
+All P (a ∷ l) = P a × All P l
+
+pub all-of : {A : Type 0} {P : A → Type 0} → ((a : A) → P a) → (l : List A) → All P l
+all-of p [] = tt
+all-of p (a ∷ l) = (p a, all-of p l)
+
+pub all-map : {A : Type 0} {P Q : A → Type 0} → ((a : A) → P a → Q a) → (l : List A) → All P l → All Q l
+all-map f [] p = tt
+all-map f (a ∷ l) p = (f a (p .0), all-map f l (p .1))
+
+pub all-append : {A : Type 0} (P : A → Type 0) (k l : List A) → All P k → All P l → All P (k ++ l)
+all-append P [] l p q = q
+all-append P (a ∷ k) l p q = (p .0, all-append P k l (p .1) q)
+
+-- ---- the sum of f over a list
+unfoldable pub total : {A : Type 0} → (A → ℤ) → List A → ℤ
+total f [] = pos 0
+total f (a ∷ l) = f a +ℤ total f l
+
+module _ {A : Type 0} where
+  pub total-cong : (f g : A → ℤ) (l : List A) → All (λ a. f a ≡ g a) l → total f l ≡ total g l
+  unfolding total
+  total-cong f g [] h = refl
+  total-cong f g (a ∷ l) h = ap₂ _+ℤ_ (h .0) (total-cong f g l (h .1))
+
+  pub total-add : (f g : A → ℤ) (l : List A) → total (λ a. f a +ℤ g a) l ≡ total f l +ℤ total g l
+  unfolding total
+  total-add f g [] = refl
+  total-add f g (a ∷ l) = comb (f a ∷ g a ∷ total (λ a. f a +ℤ g a) l ∷ total f l ∷ total g l ∷ []) (total-add f g l) (search read depth 40) tt
+
+  pub total-scale : (k : ℤ) (f : A → ℤ) (l : List A) → total (λ a. k *ℤ f a) l ≡ k *ℤ total f l
+  unfolding total
+  total-scale k f [] = ring (k ∷ []) (search read depth 40) tt
+  total-scale k f (a ∷ l) = comb (k ∷ f a ∷ total (λ a. k *ℤ f a) l ∷ total f l ∷ []) (total-scale k f l) (search read depth 40) tt
+
+  pub total-neg : (f : A → ℤ) (l : List A) → total (λ a. negℤ (f a)) l ≡ negℤ (total f l)
+  unfolding total
+  total-neg f [] = refl
+  total-neg f (a ∷ l) = comb (f a ∷ total (λ a. negℤ (f a)) l ∷ total f l ∷ []) (total-neg f l) (search read depth 40) tt
+
+  pub total-append : (f : A → ℤ) (k l : List A) → total f (k ++ l) ≡ total f k +ℤ total f l
+  unfolding total
+  total-append f [] l = ring (total f l ∷ []) (search read depth 40) tt
+  total-append f (a ∷ k) l = comb (f a ∷ total f (k ++ l) ∷ total f k ∷ total f l ∷ []) (total-append f k l) (search read depth 40) tt
+
+  pub total-const : (c : ℤ) (l : List A) → total (λ a. c) l ≡ pos (length l) *ℤ c
+  unfolding total
+  total-const c [] = ring (c ∷ []) (search read depth 40) tt
+  total-const c (a ∷ l) = comb (c ∷ total (λ a. c) l ∷ pos (length l) ∷ []) (total-const c l) (search read depth 40) tt
+
+  pub total-within : (b f : A → ℤ) (l : List A) → All (λ a. Within (b a) (f a)) l → Within (total b l) (total f l)
+  unfolding total
+  total-within b f [] h = within-self (≤ℤ-refl (pos 0))
+  total-within b f (a ∷ l) h = within-add (h .0) (total-within b f l (h .1))
+
+  -- ---- the order does not matter
+  total-permᴰ : (f : A → ℤ) {k l : List A} → List·Permᴰ k l → total f k ≡ total f l
+  unfolding total
+  total-permᴰ f List·Permᴰ·nil = refl
+  total-permᴰ f (List·Permᴰ·cons e d) = ap₂ _+ℤ_ (ap f e) (total-permᴰ f d)
+  total-permᴰ f (List·Permᴰ·swap {a} {b} {a′} {b′} {l} p q) =
+      comb (f a ∷ f b ∷ f a′ ∷ f b′ ∷ total f l ∷ []) (ap f p ⊕ ap f q) (search read depth 40) tt
+  total-permᴰ f (List·Permᴰ·trans d d′) = total-permᴰ f d ∙ total-permᴰ f d′
+
+  pub total-perm : (f : A → ℤ) {k l : List A} → Perm k l → total f k ≡ total f l
+  total-perm f {k} {l} p = ∥∥₁-elim p (ℤ-set (total f k) (total f l)) (λ d. total-permᴰ f d)

@@ -1,0 +1,59 @@
+-- Finite sums Σ_{t<n} f(t) of integers.
+--
+-- Main results
+--   Σ-zero, Σ-suc                      one term at a time
+--   Σ-cong                             equal terms, equal sums
+--   Σ-add, Σ-scale, Σ-neg              linearity
+--   Σ-telescope                        differences of neighbours add up to the difference of the ends
+--   Σ-split                            the first p terms, and the rest
+use mathlib.Core.Path.{_≡_, refl, _∙_, ap, ap₂}
+use mathlib.Core.List.{[], _∷_}
+use Prim.Native.Nat.{ℕ, zero, suc, _+_, _<_}
+use native.Mathlib.Nat.{add-suc, add-zero}
+use native.Mathlib.Omega.{arith}
+use lib.IntN.{ℤ, pos, negℤ, _+ℤ_, _-ℤ_, _*ℤ_}
+use Rattle.integers.specs.Ring.{read, ring, comb}
+
+unfoldable pub Σ< : ℕ → (ℕ → ℤ) → ℤ
+Σ< zero f = pos 0
+Σ< (suc n) f = Σ< n f +ℤ f n
+
+pub Σ-zero : (f : ℕ → ℤ) → Σ< 0 f ≡ pos 0
+unfolding Σ<
+Σ-zero f = refl
+
+pub Σ-suc : (n : ℕ) (f : ℕ → ℤ) → Σ< (suc n) f ≡ Σ< n f +ℤ f n
+unfolding Σ<
+Σ-suc n f = refl
+
+pub Σ-cong : (n : ℕ) (f g : ℕ → ℤ) → ((t : ℕ) → t < n → f t ≡ g t) → Σ< n f ≡ Σ< n g
+unfolding Σ<
+Σ-cong zero f g h = refl
+Σ-cong (suc n) f g h = ap₂ _+ℤ_ (Σ-cong n f g (λ t k. h t (omega arith))) (h n (omega arith))
+
+pub Σ-add : (n : ℕ) (f g : ℕ → ℤ) → Σ< n (λ t. f t +ℤ g t) ≡ Σ< n f +ℤ Σ< n g
+unfolding Σ<
+Σ-add zero f g = refl
+Σ-add (suc n) f g = comb (Σ< n (λ t. f t +ℤ g t) ∷ Σ< n f ∷ Σ< n g ∷ f n ∷ g n ∷ []) (Σ-add n f g) (search read depth 40) tt
+
+pub Σ-scale : (n : ℕ) (k : ℤ) (f : ℕ → ℤ) → Σ< n (λ t. k *ℤ f t) ≡ k *ℤ Σ< n f
+unfolding Σ<
+Σ-scale zero k f = ring (k ∷ []) (search read depth 40) tt
+Σ-scale (suc n) k f = comb (Σ< n (λ t. k *ℤ f t) ∷ Σ< n f ∷ f n ∷ k ∷ []) (Σ-scale n k f) (search read depth 40) tt
+
+pub Σ-neg : (n : ℕ) (f : ℕ → ℤ) → Σ< n (λ t. negℤ (f t)) ≡ negℤ (Σ< n f)
+unfolding Σ<
+Σ-neg zero f = refl
+Σ-neg (suc n) f = comb (Σ< n (λ t. negℤ (f t)) ∷ Σ< n f ∷ f n ∷ []) (Σ-neg n f) (search read depth 40) tt
+
+pub Σ-telescope : (n : ℕ) (f : ℕ → ℤ) → Σ< n (λ t. f (suc t) -ℤ f t) ≡ f n -ℤ f 0
+unfolding Σ<
+Σ-telescope zero f = ring (f 0 ∷ []) (search read depth 40) tt
+Σ-telescope (suc n) f = comb (Σ< n (λ t. f (suc t) -ℤ f t) ∷ f (suc n) ∷ f n ∷ f 0 ∷ []) (Σ-telescope n f) (search read depth 40) tt
+
+pub Σ-split : (p n : ℕ) (f : ℕ → ℤ) → Σ< (p + n) f ≡ Σ< p f +ℤ Σ< n (λ t. f (p + t))
+unfolding Σ<
+Σ-split p zero f = ap (λ k. Σ< k f) (add-zero p) ∙ ring (Σ< p f ∷ []) (search read depth 40) tt
+Σ-split p (suc n) f =
+    ap (λ k. Σ< k f) (add-suc p n)
+    ∙ comb (Σ< (p + n) f ∷ Σ< p f ∷ Σ< n (λ t. f (p + t)) ∷ f (p + n) ∷ []) (Σ-split p n f) (search read depth 40) tt

@@ -1,0 +1,82 @@
+-- The numbers that 01 fixes, each with its reason, and what is worked out from them. This is their only home: a definition, a bound or a contract
+-- names them from here, so that a request which moves one moves one definition and the checks below it.
+--
+-- Definitions
+--   stepsPerPixel; unitsPerHalfSquareStep, unitsPerPixel            length and area
+--   greatestDepth, greatestSide, greatestCoordinate                 the tile
+--   fewestPoints, mostPoints, mostEdges                             the outline
+--   widthTimesExtentLimit, numeratorLimit                           an edge's arithmetic
+--   entryLimit, fullGrey, textLimit                                 the table, the greys, the program
+use mathlib.Core.Path.{_≡_, refl}
+use Prim.Native.Nat.{ℕ, _*_, _^_}
+
+-- ---- length: "A step is 1/256 pixel." Coordinates are whole steps.
+abbrev pub stepsPerPixel : ℕ
+stepsPerPixel = 256
+
+-- ---- area: "The unit is half a square step", since a polygon with whole corners has a whole number of half square steps.
+-- How many units there are to half a square step: 1, so that the unit is 01's. The pixel and the numerators' limit are worked out from it.
+abbrev pub unitsPerHalfSquareStep : ℕ
+unitsPerHalfSquareStep = 1
+
+-- "so a full pixel is 131,072 units"
+abbrev pub unitsPerPixel : ℕ
+unitsPerPixel = unitsPerHalfSquareStep * (2 * (stepsPerPixel * stepsPerPixel))
+
+pixel-is : unitsPerPixel ≡ 131072
+pixel-is = refl
+
+-- ---- the tile: "a square of side 1 to 64 pixels", a power of two; "Depth runs from 0 to 6."
+abbrev pub greatestDepth : ℕ
+greatestDepth = 6
+
+abbrev pub greatestSide : ℕ
+greatestSide = 2 ^ greatestDepth
+
+side-is : greatestSide ≡ 64
+side-is = refl
+
+-- "A point has whole x and y from 0 to 256 × side": the greatest that a tile has
+abbrev pub greatestCoordinate : ℕ
+greatestCoordinate = stepsPerPixel * greatestSide
+
+coordinate-is : greatestCoordinate ≡ 16384
+coordinate-is = refl
+
+-- ---- the outline: "Is every count from 3 to 1,024?" Fewer than three points enclose nothing, and no contour has more points than an outline has edges.
+abbrev pub fewestPoints : ℕ
+fewestPoints = 3
+
+abbrev pub mostPoints : ℕ
+mostPoints = 1024
+
+-- "Is the counts' sum at most 1,024?" The misses of so many edges stay below one grey.
+abbrev pub mostEdges : ℕ
+mostEdges = 1024
+
+-- ---- an edge's arithmetic: a cell's width times an edge's extent in x or in y, which on a tile is at most the square of the greatest coordinate
+abbrev pub widthTimesExtentLimit : ℕ
+widthTimesExtentLimit = greatestCoordinate * greatestCoordinate
+
+width-times-extent-is : widthTimesExtentLimit ≡ 2 ^ 28
+width-times-extent-is = refl
+
+-- "no numerator passes 2^57": twice the width's square times both extents
+abbrev pub numeratorLimit : ℕ
+numeratorLimit = unitsPerHalfSquareStep * (2 * (widthTimesExtentLimit * widthTimesExtentLimit))
+
+numerator-is : numeratorLimit ≡ 2 ^ 57
+numerator-is = refl
+
+-- ---- the table: "Is every entry of the table from −2^40 to 2^40?" A built table stays within 2^38, and figures of a table in this range within 2^52.
+abbrev pub entryLimit : ℕ
+entryLimit = 2 ^ 40
+
+-- ---- greys: "held between 0 and 255", white and full ink, so that one fits a byte
+abbrev pub fullGrey : ℕ
+fullGrey = 255
+
+-- ---- the program: "Is the text at most 16,384 bytes" long? That is about twice the text of the largest accepted outline, so that one with somewhat too
+-- many points is answered by the questions about counts and not by this one.
+abbrev pub textLimit : ℕ
+textLimit = 16384

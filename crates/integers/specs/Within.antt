@@ -1,0 +1,83 @@
+-- −b ≤ x ≤ b, as two inequalities, and how such bounds add up. Proofs carry bounds in this form; |x| ≤ b stands in final statements alone.
+--
+-- Main results
+--   within-add, within-sub, within-neg, within-mul, within-scale     bounds of sums, differences, products, multiples
+--   within-le, within-is, within-self                                a larger bound, an equal one, a number's own
+--   within-sign                                                      of a number times 1 or −1
+--   within-of-abs, abs-of-within                                     the same as |x| ≤ b
+--   zero-of-within                                                   within 0 is 0
+--   bounds                                                           as facts for `lin≤`
+use mathlib.Core.Path.{_≡_, refl, sym, subst₂}
+use mathlib.Core.List.{[], _∷_}
+use mathlib.Core.Logic.{_⊎_, inl, inr}
+use Prim.Native.Nat.{ℕ}
+use lib.IntN.{ℤ, pos, negsuc, negℤ, _+ℤ_, _-ℤ_, _*ℤ_}
+use lib.Signed.{_≤ℤ_}
+use Rattle.integers.specs.Ring.{read, comb, _⊗_}
+use Rattle.integers.specs.Order.{≤ℤ-mul, nonneg}
+use Rattle.integers.specs.Linear.{end, more, Facts, le, _&_, linear, lin≤, lin≡}
+use Rattle.integers.specs.Magnitude.{abs, abs-le, le-abs, neg-le-abs}
+
+pub record Within (b x : ℤ) : Type 0 where
+  pub low : negℤ b ≤ℤ x
+  pub high : x ≤ℤ b
+
+pub bounds : {b x : ℤ} → Within b x → Facts (more (negℤ b) x (more x b end))
+bounds w = le (w .low) & le (w .high)
+
+pub within-is : {a b x y : ℤ} → a ≡ b → x ≡ y → Within a x → Within b y
+within-is e f w = subst₂ Within e f w
+
+pub within-le : {a b x : ℤ} → a ≤ℤ b → Within a x → Within b x
+within-le {a} {b} {x} h w = record {
+  low = lin≤ (a ∷ b ∷ x ∷ []) (bounds w & le h) (search linear depth 40) tt;
+  high = lin≤ (a ∷ b ∷ x ∷ []) (bounds w & le h) (search linear depth 40) tt;
+}
+
+pub within-add : {a b x y : ℤ} → Within a x → Within b y → Within (a +ℤ b) (x +ℤ y)
+within-add {a} {b} {x} {y} p q = record {
+  low = lin≤ (a ∷ b ∷ x ∷ y ∷ []) (bounds p & bounds q) (search linear depth 40) tt;
+  high = lin≤ (a ∷ b ∷ x ∷ y ∷ []) (bounds p & bounds q) (search linear depth 40) tt;
+}
+
+pub within-neg : {a x : ℤ} → Within a x → Within a (negℤ x)
+within-neg {a} {x} w = record {
+  low = lin≤ (a ∷ x ∷ []) (bounds w) (search linear depth 40) tt;
+  high = lin≤ (a ∷ x ∷ []) (bounds w) (search linear depth 40) tt;
+}
+
+pub within-sub : {a b x y : ℤ} → Within a x → Within b y → Within (a +ℤ b) (x -ℤ y)
+within-sub p q = within-add p (within-neg q)
+
+-- of the four products of distances to the bounds, two give each side
+pub within-mul : {a b x y : ℤ} → Within a x → Within b y → Within (a *ℤ b) (x *ℤ y)
+within-mul {a} {b} {x} {y} p q = record {
+  low = lin≤ (a ∷ b ∷ x ∷ y ∷ []) (le (≤ℤ-mul (p .low) (q .low)) & le (≤ℤ-mul (p .high) (q .high))) (search linear depth 40) tt;
+  high = lin≤ (a ∷ b ∷ x ∷ y ∷ []) (le (≤ℤ-mul (p .low) (q .high)) & le (≤ℤ-mul (p .high) (q .low))) (search linear depth 40) tt;
+}
+
+pub within-self : {k : ℤ} → pos 0 ≤ℤ k → Within k k
+within-self {k} h = record {
+  low = lin≤ (k ∷ []) (le h) (search linear depth 40) tt;
+  high = lin≤ (k ∷ []) (le h) (search linear depth 40) tt;
+}
+
+pub within-scale : {b x : ℤ} (k : ℕ) → Within b x → Within (pos k *ℤ b) (pos k *ℤ x)
+within-scale k w = within-mul (within-self (nonneg k)) w
+
+pub within-sign : {b x s : ℤ} → (s ≡ pos 1) ⊎ (s ≡ negsuc 0) → Within b x → Within b (s *ℤ x)
+within-sign {b} {x} {s} (inl e) w = within-is refl (comb (s ∷ x ∷ []) (x ⊗ sym e) (search read depth 40) tt) w
+within-sign {b} {x} {s} (inr e) w = within-is refl (comb (s ∷ x ∷ []) (x ⊗ sym e) (search read depth 40) tt) (within-neg w)
+
+-- ---- magnitudes
+pub within-of-abs : {b x : ℤ} → abs x ≤ℤ b → Within b x
+within-of-abs {b} {x} h = record {
+  low = lin≤ (b ∷ x ∷ abs x ∷ []) (le h & le (neg-le-abs x)) (search linear depth 40) tt;
+  high = lin≤ (b ∷ x ∷ abs x ∷ []) (le h & le (le-abs x)) (search linear depth 40) tt;
+}
+
+pub abs-of-within : {b x : ℤ} → Within b x → abs x ≤ℤ b
+abs-of-within {b} {x} w = abs-le (w .high) (lin≤ (b ∷ x ∷ []) (le (w .low)) (search linear depth 40) tt)
+
+pub zero-of-within : {x : ℤ} → Within (pos 0) x → x ≡ pos 0
+zero-of-within {x} w = lin≡ (x ∷ []) (bounds w) (search linear depth 40) (tt, tt)
