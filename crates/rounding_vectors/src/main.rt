@@ -1,0 +1,96 @@
+// Runs `integers::div_round_half_away` as it is compiled, and prints each answer on a line. `stdout` has what it must print, worked out
+// another way: in exact fractions, of the two whole numbers around n / d the one at the smaller distance, and at equal distances the one of larger magnitude.
+ghost use mathlib.Core.Path.{_≡_};
+ghost use lib.IntN.{natAbs};
+use integers::div_round_half_away;
+use libc::STDOUT_FILENO;
+
+fn show(n: i64, d: i64) {
+    if d > 0 {
+        print(div_round_half_away(n, d));
+        io::write_all(STDOUT_FILENO, b"\n");
+    }
+}
+
+fn print(q: i64) {
+    if q < 0 {
+        io::write_all(STDOUT_FILENO, b"-");
+    }
+    io::print_decimal(STDOUT_FILENO, magnitude(q));
+}
+
+// The magnitude of the least number does not fit 64 signed bits, so one is added after the cast.
+fn magnitude(q: i64) -> u64
+    ensures { λ r. ⌜ r ≡ natAbs q ⌝ }
+{
+    if q < 0 {
+        (-(q + 1)) as u64 + 1
+    } else {
+        q as u64
+    }
+}
+
+// Halves and thirds, both signs.
+fn small() {
+    show(0, 1);
+    show(7, 7);
+    show(1, 2);
+    show(-1, 2);
+    show(3, 2);
+    show(-3, 2);
+    show(5, 2);
+    show(-5, 2);
+    show(1, 3);
+    show(-1, 3);
+    show(2, 3);
+    show(-2, 3);
+    show(10, 4);
+    show(-10, 4);
+    show(9, 4);
+    show(11, 4);
+    show(-9, 4);
+    show(-11, 4);
+}
+
+// 01's letter G, 509 1/2, and letter F, 298 2/3.
+fn letters() {
+    show(2038, 4);
+    show(-2038, 4);
+    show(114688, 384);
+    show(-114688, 384);
+}
+
+// 2^57, which no edge's numerator passes, and one more, for a half.
+fn numerators() {
+    show(144115188075855872, 3);
+    show(-144115188075855872, 3);
+    show(144115188075855873, 2);
+    show(-144115188075855873, 2);
+}
+
+// The ends of the range, where n cannot be doubled nor its sign turned.
+fn extremes() {
+    show(9223372036854775807, 1);
+    show(-9223372036854775808, 1);
+    show(9223372036854775807, 2);
+    show(-9223372036854775808, 2);
+    show(-9223372036854775807, 2);
+    show(9223372036854775807, 9223372036854775807);
+    show(-9223372036854775808, 9223372036854775807);
+    show(4611686018427387904, 9223372036854775807);
+    show(4611686018427387903, 9223372036854775807);
+    show(-4611686018427387904, 9223372036854775807);
+    show(-4611686018427387903, 9223372036854775807);
+    show(4611686018427387904, 9223372036854775806);
+    show(-4611686018427387904, 9223372036854775806);
+    show(4611686018427387903, 9223372036854775806);
+    show(-4611686018427387903, 9223372036854775806);
+    show(0, 9223372036854775807);
+}
+
+fn main() {
+    small();
+    letters();
+    numerators();
+    extremes();
+}
