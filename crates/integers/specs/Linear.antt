@@ -21,8 +21,8 @@ use Rattle.integers.specs.Ring.{Reads, read-add, read-pos, expr, expr-va
 use Rattle.integers.specs.Order.{Gap, ≤ℤ-gap, gap-≤ℤ, add-one-≤ℤ, ≤ℤ-or-<ℤ, ≤ℤ-add, ≤ℤ-scale, ≤ℤ-antisym, ≤ℤ-of-≡}
 use Rattle.integers.specs.Elimination.{tidy, eval-tidy, Refuted, eliminate, Hold, eliminate-sound}
 
--- How many monomials may be eliminated in one call. A call that needed as many would long have met the check's own limit on steps, so the number
--- decides nothing; it is there because the elimination must end.
+-- How many monomials may be eliminated in one call: the elimination recurses on this number, and so ends. It is room for the sixteen atoms that
+-- `read` has lemmas for and for fourteen products of them; a goal that is refused with more unknowns than that wants it raised.
 abbrev pub rounds : ℕ
 rounds = 30
 

@@ -10,11 +10,12 @@
 use mathlib.Core.Path.{_≡_, refl, sym, _∙_, ap, subst⁻¹}
 use mathlib.Core.List.{[], _∷_}
 use mathlib.Core.Bool.{Bool, true, false, cond}
-use lib.IntN.{ℤ, pos, _+ℤ_, _-ℤ_, _*ℤ_}
+use lib.IntN.{ℤ, pos, negsuc, negℤ, negℤ-negℤ, _-ℤ_, _*ℤ_}
 use lib.Signed.{leZ, _≤ℤ_}
-use Rattle.integers.specs.Order.{≤ℤ-antisym, ≤ℤ-of-<ℤ, ≤ℤ-of-≡, ≤ℤ-mul, leZ-true, leZ-false}
-use Rattle.integers.specs.Linear.{le, _&_, linear, lin≤}
-use Rattle.integers.specs.Within.{Within, bounds}
+use Rattle.integers.specs.Ring.{read, ring, comb, _⊕_, _⊗_}
+use Rattle.integers.specs.Order.{≤ℤ-neg, ≤ℤ-antisym, ≤ℤ-of-<ℤ, ≤ℤ-of-≡, ≤ℤ-mul, leZ-true, leZ-false}
+use Rattle.integers.specs.Linear.{le, eq, _&_, linear, lin≤}
+use Rattle.integers.specs.Within.{Within, bounds, within-is, within-neg}
 
 unfoldable pub min : ℤ → ℤ → ℤ
 min a b = cond (leZ a b) a b
@@ -70,27 +71,24 @@ min-eqˡ {a} {b} h = ≤ℤ-antisym (min-≤ˡ a b) (min-greatest (≤ℤ-of-≡
 pub min-eqʳ : {a b : ℤ} → b ≤ℤ a → min a b ≡ b
 min-eqʳ {a} {b} h = ≤ℤ-antisym (min-≤ʳ a b) (min-greatest h (≤ℤ-of-≡ refl))
 
--- ---- the maximum
-pub max-≥ˡ : (a b : ℤ) → a ≤ℤ max a b
-max-≥ˡ a b = go (max-view a b)
+-- ---- the maximum is a minimum, turned about zero, and so are its laws
+max-is-min : (a b : ℤ) → max a b ≡ negℤ (min (negℤ a) (negℤ b))
+max-is-min a b = go (max-view a b)
   where
-    go : Chosen (b ≤ℤ a) (a ≤ℤ b) a b (max a b) → a ≤ℤ max a b
-    go (first h e) = ≤ℤ-of-≡ (sym e)
-    go (second h e) = subst⁻¹ (λ x. a ≤ℤ x) e h
+    go : Chosen (b ≤ℤ a) (a ≤ℤ b) a b (max a b) → max a b ≡ negℤ (min (negℤ a) (negℤ b))
+    go (first h e) = e ∙ sym (ap negℤ (min-eqˡ (≤ℤ-neg h)) ∙ negℤ-negℤ a)
+    go (second h e) = e ∙ sym (ap negℤ (min-eqʳ (≤ℤ-neg h)) ∙ negℤ-negℤ b)
+
+pub max-≥ˡ : (a b : ℤ) → a ≤ℤ max a b
+max-≥ˡ a b = let m = min (negℤ a) (negℤ b) in lin≤ (a ∷ max a b ∷ m ∷ []) (eq (max-is-min a b) & le (min-≤ˡ (negℤ a) (negℤ b))) (search linear depth 40) tt
 
 pub max-≥ʳ : (a b : ℤ) → b ≤ℤ max a b
-max-≥ʳ a b = go (max-view a b)
-  where
-    go : Chosen (b ≤ℤ a) (a ≤ℤ b) a b (max a b) → b ≤ℤ max a b
-    go (first h e) = subst⁻¹ (λ x. b ≤ℤ x) e h
-    go (second h e) = ≤ℤ-of-≡ (sym e)
+max-≥ʳ a b = let m = min (negℤ a) (negℤ b) in lin≤ (b ∷ max a b ∷ m ∷ []) (eq (max-is-min a b) & le (min-≤ʳ (negℤ a) (negℤ b))) (search linear depth 40) tt
 
 pub max-least : {a b c : ℤ} → a ≤ℤ c → b ≤ℤ c → max a b ≤ℤ c
-max-least {a} {b} {c} h k = go (max-view a b)
-  where
-    go : Chosen (b ≤ℤ a) (a ≤ℤ b) a b (max a b) → max a b ≤ℤ c
-    go (first i e) = subst⁻¹ (λ x. x ≤ℤ c) e h
-    go (second i e) = subst⁻¹ (λ x. x ≤ℤ c) e k
+max-least {a} {b} {c} h k =
+    let m = min (negℤ a) (negℤ b) in
+    lin≤ (c ∷ max a b ∷ m ∷ []) (eq (max-is-min a b) & le (min-greatest (≤ℤ-neg h) (≤ℤ-neg k))) (search linear depth 40) tt
 
 pub max-eqˡ : {a b : ℤ} → b ≤ℤ a → max a b ≡ a
 max-eqˡ {a} {b} h = ≤ℤ-antisym (max-least (≤ℤ-of-≡ refl) h) (max-≥ˡ a b)
@@ -126,16 +124,11 @@ min-moves {b} x y x′ y′ p q =
     }
 
 pub max-moves : {b : ℤ} (x y x′ y′ : ℤ) → Within b (x′ -ℤ x) → Within b (y′ -ℤ y) → Within b (max x′ y′ -ℤ max x y)
-max-moves {b} x y x′ y′ p q =
-    let m = max x y in
-    let m′ = max x′ y′ in
-    let up : m′ ≤ℤ (m +ℤ b) =
-    max-least (lin≤ (x ∷ x′ ∷ b ∷ m ∷ []) (bounds p & le (max-≥ˡ x y)) (search linear depth 40) tt)
-    (lin≤ (y ∷ y′ ∷ b ∷ m ∷ []) (bounds q & le (max-≥ʳ x y)) (search linear depth 40) tt) in
-    let down : m ≤ℤ (m′ +ℤ b) =
-    max-least (lin≤ (x ∷ x′ ∷ b ∷ m′ ∷ []) (bounds p & le (max-≥ˡ x′ y′)) (search linear depth 40) tt)
-    (lin≤ (y ∷ y′ ∷ b ∷ m′ ∷ []) (bounds q & le (max-≥ʳ x′ y′)) (search linear depth 40) tt) in
-    record {
-      low = lin≤ (m ∷ m′ ∷ b ∷ []) (le down) (search linear depth 40) tt;
-      high = lin≤ (m ∷ m′ ∷ b ∷ []) (le up) (search linear depth 40) tt;
-    }
+max-moves x y x′ y′ p q =
+    let m = min (negℤ x) (negℤ y) in
+    let m′ = min (negℤ x′) (negℤ y′) in
+    within-is refl (comb (max x y ∷ max x′ y′ ∷ m ∷ m′ ∷ []) (max-is-min x y ⊕ negsuc 0 ⊗ max-is-min x′ y′) (search read depth 40) tt)
+    (within-neg (min-moves (negℤ x) (negℤ y) (negℤ x′) (negℤ y′) (turned x x′ p) (turned y y′ q)))
+  where
+    turned : (v v′ : ℤ) {b : ℤ} → Within b (v′ -ℤ v) → Within b (negℤ v′ -ℤ negℤ v)
+    turned v v′ w = within-is refl (ring (v ∷ v′ ∷ []) (search read depth 40) tt) (within-neg w)

@@ -59,8 +59,9 @@ read-pos-suc (reads e p) = reads (e ⊞ lit (pos 1)) (ap (λ x. x +ℤ pos 1) p 
 abbrev pub read-negsuc-open : {ρ : List ℤ} {a : ℕ} → Reads ρ (pos a) → Reads ρ (negsuc a)
 read-negsuc-open (reads e p) = reads (⊖_ (e ⊞ lit (pos 1))) (ap (λ x. negℤ (x +ℤ pos 1)) p ∙ ap (λ (x : ℕ). negℤ (pos x)) (add-one _))
 
--- ---- an atom, by its place in the list. A lemma for each place: `search` tries 1,000 lemmas and no more, and with one lemma for the first place
--- and one for the rest it would spend them on walking the list. A seventeenth atom is one more line here and one more name in `read`.
+-- ---- an atom, by its place in the list: a lemma for each place. One for the first place and one for the rest would do, but `search` would count
+-- each place that it passes as a lemma, and meet its bound of 1,000 on larger goals unless every call raised it. A seventeenth atom is one more
+-- lemma here and one more name in `read`.
 abbrev pub atom0 : {x : ℤ} {ρ : List ℤ} → Reads (x ∷ ρ) x
 atom0 = reads (var 0) refl
 

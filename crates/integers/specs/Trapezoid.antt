@@ -15,8 +15,8 @@ use mathlib.Core.List.{[], _∷_}
 use Prim.Native.Nat.{ℕ, zero, suc, _+_, _<_, _≤_}
 use native.Mathlib.Nat.{add-suc, add-zero}
 use native.Mathlib.Omega.{arith}
-use lib.IntN.{ℤ, pos, _+ℤ_, _-ℤ_, _*ℤ_}
-use Rattle.integers.specs.Ring.{read, ring, comb, _⊕_}
+use lib.IntN.{ℤ, pos, negsuc, _+ℤ_, _-ℤ_, _*ℤ_}
+use Rattle.integers.specs.Ring.{read, ring, comb, _⊕_, _⊗_}
 use Rattle.integers.specs.RangeSum.{Σ<, Σ-suc, Σ-cong, Σ-split}
 
 -- one step's part
@@ -61,18 +61,18 @@ S-scaleˡ k f g zero = ring (k ∷ []) (search read depth 40) tt
 S-scaleˡ k f g (suc n) =
     comb (Σ< n (trapezoid (λ t. k *ℤ f t) g) ∷ Σ< n (trapezoid f g) ∷ f n ∷ f (suc n) ∷ g n ∷ g (suc n) ∷ k ∷ []) (S-scaleˡ k f g n) (search read depth 40) tt
 
+-- in g by the product rule, which exchanges f and g
 pub S-addʳ : (f g g′ : ℕ → ℤ) (n : ℕ) → S f (λ t. g t +ℤ g′ t) n ≡ S f g n +ℤ S f g′ n
-unfolding S Σ<
-S-addʳ f g g′ zero = refl
-S-addʳ f g g′ (suc n) =
-    comb (Σ< n (trapezoid f (λ t. g t +ℤ g′ t)) ∷ Σ< n (trapezoid f g) ∷ Σ< n (trapezoid f g′) ∷ f n ∷ f (suc n) ∷ g′ n ∷ g′ (suc n) ∷ g n ∷ g (suc n) ∷ [])
-    (S-addʳ f g g′ n) (search read depth 40) tt
+S-addʳ f g g′ n =
+    let h : ℕ → ℤ = λ t. g t +ℤ g′ t in
+    comb (S f h n ∷ S h f n ∷ S f g n ∷ S g f n ∷ S f g′ n ∷ S g′ f n ∷ f n ∷ f 0 ∷ g n ∷ g 0 ∷ g′ n ∷ g′ 0 ∷ [])
+    (S-product f h n ⊕ negsuc 0 ⊗ S-product f g n ⊕ negsuc 0 ⊗ S-product f g′ n ⊕ negsuc 0 ⊗ S-addˡ g g′ f n) (search read depth 40) tt
 
 pub S-scaleʳ : (k : ℤ) (f g : ℕ → ℤ) (n : ℕ) → S f (λ t. k *ℤ g t) n ≡ k *ℤ S f g n
-unfolding S Σ<
-S-scaleʳ k f g zero = ring (k ∷ []) (search read depth 40) tt
-S-scaleʳ k f g (suc n) =
-    comb (Σ< n (trapezoid f (λ t. k *ℤ g t)) ∷ Σ< n (trapezoid f g) ∷ f n ∷ f (suc n) ∷ g n ∷ g (suc n) ∷ k ∷ []) (S-scaleʳ k f g n) (search read depth 40) tt
+S-scaleʳ k f g n =
+    let h : ℕ → ℤ = λ t. k *ℤ g t in
+    comb (S f h n ∷ S h f n ∷ S f g n ∷ S g f n ∷ f n ∷ f 0 ∷ g n ∷ g 0 ∷ k ∷ [])
+    (S-product f h n ⊕ (negsuc 0 *ℤ k) ⊗ S-product f g n ⊕ negsuc 0 ⊗ S-scaleˡ k g f n) (search read depth 40) tt
 
 pub S-constʳ : (f : ℕ → ℤ) (c : ℤ) (n : ℕ) → S f (λ t. c) n ≡ pos 0
 unfolding S Σ<
