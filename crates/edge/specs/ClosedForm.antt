@@ -1,0 +1,185 @@
+-- The closed form: where some step of a walk lies strictly inside a cell, its integrals there are sums over at most three pieces, cut where the walk
+-- crosses the cell's middle in one direction and in the other. (Where none does, they are 0: the zero law.)
+--
+-- Main results
+--   cuts                                                      the steps that cut the walk: enter, two middles in their order, leave
+--   cuts-closed                                               at each step from the first to the last the walk is in the closed cell
+--   near-past-closed, past-near-closed, near-near-closed      the closed form of a walk
+--   h-closed, v-closed, d-closed                              and of an edge
+use mathlib.Core.Path.{_≡_, refl, sym, _∙_, ap, subst}
+use mathlib.Core.List.{[], _∷_}
+use mathlib.Core.Logic.{_⊎_, inl, inr}
+use Prim.Native.Nat.{ℕ}
+use lib.IntN.{ℤ, pos, negsuc, negℤ, _+ℤ_, _-ℤ_, _*ℤ_}
+use lib.Signed.{_≤ℤ_, _<ℤ_}
+use Rattle.integers.specs.Ring.{read, ring}
+use Rattle.integers.specs.Order.{≤ℤ-or-<ℤ, ≤ℤ-trans, ≤ℤ-of-<ℤ, ≤ℤ-mul-nonneg, add-one-≤ℤ, nonneg}
+use Rattle.integers.specs.Linear.{le, lt, eq, _&_, none!, linear, lin≤, lin<, lin≡, lin⊥}
+use Rattle.integers.specs.MinMax.{min, max, min-≤ˡ, min-≤ʳ, min-greatest, max-≥ˡ, max-≥ʳ, max-least}
+use Rattle.integers.specs.Clamp.{clamp, clamp-low, clamp-high}
+use Rattle.edge.specs.declared.Edge.{Edge}
+use Rattle.edge.specs.declared.Cell.{Cell}
+use Rattle.edge.specs.declared.Axis.{Axis}
+use Rattle.edge.specs.declared.Samples.{Samples}
+use Rattle.edge.specs.Walk.{steps, xAxis, yAxis, past, near}
+use Rattle.edge.specs.Integrals.{along, hNum, vNum, dNum}
+use Rattle.edge.specs.Inside.{Between}
+use Rattle.edge.specs.WalkLaws.{Steady, steady-within, x-steady, y-steady}
+use Rattle.edge.specs.StepLaws.{Outside, Closed, Rests, between-or-outside, between-ends, outside-rests}
+use Rattle.edge.specs.Runs.{three, Idle, Ordered, three-pieces, upto-all}
+use Rattle.edge.specs.ZeroLaw.{idle-near-past, idle-near-near}
+use Rattle.edge.specs.Crossings.{span, span-steps, span-low, span-high}
+use Rattle.edge.specs.OneDirection.{toMiddle, ClosedRun, BothLinear, both-linear}
+
+-- from the first step to the last, cut at the steps x and y where these lie between
+abbrev pub cutsAt : ℤ → ℤ → ℤ → ℤ → Samples
+cutsAt p q x y = record { first = p; second = min (clamp x p q) (clamp y p q); third = max (clamp x p q) (clamp y p q); fourth = q }
+
+abbrev pub cuts : Axis → Axis → Cell → ℤ → ℤ → Samples
+cuts a b c half n = cutsAt (span a b c n .first) (span a b c n .last) (toMiddle a (c .left) half) (toMiddle b (c .top) half)
+
+abbrev pub threeAt : (ℤ → ℤ) → (ℤ → ℤ) → Samples → ℤ
+threeAt f g s = three f g (s .first) (s .second) (s .third) (s .fourth)
+
+-- ---- a walk with some step strictly inside
+module _ (a b : Axis) (sa : Steady a) (sb : Steady b) (c : Cell) (half : ℤ) (even : c .width ≡ half +ℤ half) (hh : pos 0 ≤ℤ half) (n : ℕ)
+    (inside : span a b c (pos n) .first <ℤ span a b c (pos n) .last) where
+  abbrev w : ℤ
+  w = c .width
+
+  abbrev p : ℤ
+  p = span a b c (pos n) .first
+
+  abbrev q : ℤ
+  q = span a b c (pos n) .last
+
+  abbrev mx : ℤ
+  mx = clamp (toMiddle a (c .left) half) p q
+
+  abbrev my : ℤ
+  my = clamp (toMiddle b (c .top) half) p q
+
+  abbrev k : Samples
+  k = cuts a b c half (pos n)
+
+  w≥0 : pos 0 ≤ℤ w
+  w≥0 = lin≤ (w ∷ half ∷ []) (eq even & le hh) (search linear depth 40) tt
+
+  p≥0 : pos 0 ≤ℤ p
+  p≥0 = span-low a b sa sb c (pos n)
+
+  q≤n : q ≤ℤ pos n
+  q≤n = span-high a b sa sb c (pos n)
+
+  p≤q : p ≤ℤ q
+  p≤q = ≤ℤ-of-<ℤ inside
+
+  -- ---- inside from p to q
+  both : (t : ℤ) → p ≤ℤ t → (t +ℤ pos 1) ≤ℤ q → Between a (c .left) w t × Between b (c .top) w t
+  both t h j = span-steps a b sa sb c (pos n) .from t (≤ℤ-trans p≥0 h) (≤ℤ-trans j q≤n) h j
+
+  pub cuts-closed : (t : ℤ) → p ≤ℤ t → t ≤ℤ q → Closed a (c .left) w t × Closed b (c .top) w t
+  cuts-closed t h j = go (≤ℤ-or-<ℤ q t)
+    where
+      go : (q ≤ℤ t) ⊎ (t <ℤ q) → Closed a (c .left) w t × Closed b (c .top) w t
+      go (inr i) =
+          let s = both t h (add-one-≤ℤ i) in
+          (between-ends a (c .left) w t (steady-within sa) (s .0) .0, between-ends b (c .top) w t (steady-within sb) (s .1) .0)
+      go (inl i) =
+          let s = both (t -ℤ pos 1) (lin≤ (t ∷ p ∷ q ∷ []) (le i & lt inside) (search linear depth 40) tt) (lin≤ (t ∷ q ∷ []) (le j) (search linear depth 40) tt) in
+          let e : t -ℤ pos 1 +ℤ pos 1 ≡ t = ring (t ∷ []) (search read depth 40) tt in (
+            subst (Closed a (c .left) w) e (between-ends a (c .left) w (t -ℤ pos 1) (steady-within sa) (s .0) .1),
+            subst (Closed b (c .top) w) e (between-ends b (c .top) w (t -ℤ pos 1) (steady-within sb) (s .1) .1),
+          )
+
+  -- ---- outside before p and from q on
+  rests : (t : ℤ) → pos 0 ≤ℤ t → (t +ℤ pos 1) ≤ℤ pos n → ((t +ℤ pos 1) ≤ℤ p) ⊎ (q ≤ℤ t) → Rests a (c .left) w t ⊎ Rests b (c .top) w t
+  rests t h j o = go (between-or-outside a (c .left) w t (steady-within sa)) (between-or-outside b (c .top) w t (steady-within sb))
+    where
+      not-both : ((t +ℤ pos 1) ≤ℤ p) ⊎ (q ≤ℤ t) → (p ≤ℤ t) × ((t +ℤ pos 1) ≤ℤ q) → ⊥
+      not-both (inl i) s = lin⊥ (t ∷ p ∷ []) (le i & le (s .0)) (search linear depth 40) tt
+      not-both (inr i) s = lin⊥ (t ∷ q ∷ []) (le i & le (s .1)) (search linear depth 40) tt
+
+      go : Between a (c .left) w t ⊎ Outside a (c .left) w t → Between b (c .top) w t ⊎ Outside b (c .top) w t → Rests a (c .left) w t ⊎ Rests b (c .top) w t
+      go (inr x) y = inl (outside-rests a (c .left) w t (≤ℤ-mul-nonneg (sa .scaled) w≥0) x)
+      go (inl x) (inr y) = inr (outside-rests b (c .top) w t (≤ℤ-mul-nonneg (sb .scaled) w≥0) y)
+      go (inl x) (inl y) = absurd (not-both o (span-steps a b sa sb c (pos n) .to t h j (x, y)))
+
+  rests-early : (t : ℤ) → pos 0 ≤ℤ t → (t +ℤ pos 1) ≤ℤ p → Rests a (c .left) w t ⊎ Rests b (c .top) w t
+  rests-early t h j = rests t h (≤ℤ-trans j (≤ℤ-trans p≤q q≤n)) (inl j)
+
+  rests-late : (t : ℤ) → q ≤ℤ t → (t +ℤ pos 1) ≤ℤ pos n → Rests a (c .left) w t ⊎ Rests b (c .top) w t
+  rests-late t h j = rests t (≤ℤ-trans (≤ℤ-trans p≥0 p≤q) h) j (inr h)
+
+  -- ---- the cuts
+  ordered : Ordered (k .first) (k .second) (k .third) (k .fourth) (pos n)
+  ordered = record {
+    p≥0 = p≥0;
+    a≥p = min-greatest (clamp-low (toMiddle a (c .left) half) p q) (clamp-low (toMiddle b (c .top) half) p q);
+    b≥a = ≤ℤ-trans (min-≤ˡ mx my) (max-≥ˡ mx my);
+    q≥b = max-least (clamp-high p≤q (toMiddle a (c .left) half)) (clamp-high p≤q (toMiddle b (c .top) half));
+    n≥q = q≤n;
+  }
+
+  -- the second of two numbers in order, or the first, is the one
+  middle-x : (max mx my ≤ℤ mx) ⊎ (mx ≤ℤ min mx my)
+  middle-x = go (≤ℤ-or-<ℤ mx my)
+    where
+      go : (mx ≤ℤ my) ⊎ (my <ℤ mx) → (max mx my ≤ℤ mx) ⊎ (mx ≤ℤ min mx my)
+      go (inl h) = inr (min-greatest (lin≤ (mx ∷ []) none! (search linear depth 40) tt) h)
+      go (inr h) = inl (max-least (lin≤ (mx ∷ []) none! (search linear depth 40) tt) (≤ℤ-of-<ℤ h))
+
+  middle-y : (max mx my ≤ℤ my) ⊎ (my ≤ℤ min mx my)
+  middle-y = go (≤ℤ-or-<ℤ mx my)
+    where
+      go : (mx ≤ℤ my) ⊎ (my <ℤ mx) → (max mx my ≤ℤ my) ⊎ (my ≤ℤ min mx my)
+      go (inl h) = inl (max-least h (lin≤ (my ∷ []) none! (search linear depth 40) tt))
+      go (inr h) = inr (min-greatest (≤ℤ-of-<ℤ h) (lin≤ (my ∷ []) none! (search linear depth 40) tt))
+
+  lx : BothLinear a (c .left) w (k .first) (k .second) (k .third) (k .fourth)
+  lx = both-linear a sa (c .left) half even p≤q (ordered .a≥p) (ordered .b≥a) (ordered .q≥b) (record { at = λ t i j. cuts-closed t i j .0 })
+      (min-≤ˡ mx my) (max-≥ˡ mx my) middle-x
+
+  ly : BothLinear b (c .top) w (k .first) (k .second) (k .third) (k .fourth)
+  ly = both-linear b sb (c .top) half even p≤q (ordered .a≥p) (ordered .b≥a) (ordered .q≥b) (record { at = λ t i j. cuts-closed t i j .1 })
+      (min-≤ʳ mx my) (max-≥ʳ mx my) middle-y
+
+  swap : {P Q : Type 0} → P ⊎ Q → Q ⊎ P
+  swap (inl x) = inr x
+  swap (inr x) = inl x
+
+  pub near-past-closed : along (near a (c .left) w) (past b (c .top) w) n ≡ threeAt (near a (c .left) w) (past b (c .top) w) (cuts a b c half (pos n))
+  near-past-closed =
+      sym (upto-all (near a (c .left) w) (past b (c .top) w) n)
+      ∙ three-pieces (near a (c .left) w) (past b (c .top) w) ordered (record { none = λ t h j. idle-near-past (rests-early t h j) })
+      (lx .tented) (ly .whole) (record { none = λ t h j. idle-near-past (rests-late t h j) })
+
+  pub past-near-closed : along (near b (c .top) w) (past a (c .left) w) n ≡ threeAt (near b (c .top) w) (past a (c .left) w) (cuts a b c half (pos n))
+  past-near-closed =
+      sym (upto-all (near b (c .top) w) (past a (c .left) w) n)
+      ∙ three-pieces (near b (c .top) w) (past a (c .left) w) ordered (record { none = λ t h j. idle-near-past (swap (rests-early t h j)) })
+      (ly .tented) (lx .whole) (record { none = λ t h j. idle-near-past (swap (rests-late t h j)) })
+
+  pub near-near-closed : along (near a (c .left) w) (near b (c .top) w) n ≡ threeAt (near a (c .left) w) (near b (c .top) w) (cuts a b c half (pos n))
+  near-near-closed =
+      sym (upto-all (near a (c .left) w) (near b (c .top) w) n)
+      ∙ three-pieces (near a (c .left) w) (near b (c .top) w) ordered (record { none = λ t h j. idle-near-near (rests-early t h j) })
+      (lx .tented) (ly .tented) (record { none = λ t h j. idle-near-near (rests-late t h j) })
+
+-- ---- an edge
+abbrev pub edgeCuts : Edge → Cell → ℤ → Samples
+edgeCuts e c half = cuts (xAxis e) (yAxis e) c half (pos (steps e))
+
+module _ (e : Edge) (c : Cell) (half : ℤ) (even : c .width ≡ half +ℤ half) (hh : pos 0 ≤ℤ half)
+    (inside : edgeCuts e c half .first <ℤ edgeCuts e c half .fourth) where
+  pub h-closed : hNum e c ≡ threeAt (near (xAxis e) (c .left) (c .width)) (past (yAxis e) (c .top) (c .width)) (edgeCuts e c half)
+  unfolding hNum
+  h-closed = near-past-closed (xAxis e) (yAxis e) (x-steady e) (y-steady e) c half even hh (steps e) inside
+
+  pub v-closed : vNum e c ≡ negℤ (threeAt (near (yAxis e) (c .top) (c .width)) (past (xAxis e) (c .left) (c .width)) (edgeCuts e c half))
+  unfolding vNum
+  v-closed = ap negℤ (past-near-closed (xAxis e) (yAxis e) (x-steady e) (y-steady e) c half even hh (steps e) inside)
+
+  pub d-closed : dNum e c ≡ threeAt (near (xAxis e) (c .left) (c .width)) (near (yAxis e) (c .top) (c .width)) (edgeCuts e c half)
+  unfolding dNum
+  d-closed = near-near-closed (xAxis e) (yAxis e) (x-steady e) (y-steady e) c half even hh (steps e) inside

@@ -1,0 +1,166 @@
+-- The steps of a walk that lie strictly inside a cell are consecutive: from the crossing of one side to that of the other, in both directions at once.
+--
+-- Main results
+--   strip                       the steps of one direction between two lines, by the sign of its walk
+--   strip-steps                 they are just the steps strictly between the sides
+--   span, span-steps            the same for both directions, and so for a cell
+--   span-inside, inside-span    first < last just where some step lies strictly inside
+use mathlib.Core.Path.{_≡_, refl, sym, _∙_, ap, subst}
+use mathlib.Core.List.{[], _∷_}
+use mathlib.Core.Logic.{_⊎_, inl, inr}
+use mathlib.Core.Bool.{Bool, true, false, cond}
+use Prim.Native.Nat.{ℕ, zero, suc, _+_, _≤_}
+use native.Mathlib.Omega.{arith}
+use lib.IntN.{ℤ, pos, negsuc, negℤ, _+ℤ_, _-ℤ_, _*ℤ_}
+use lib.Signed.{_≤ℤ_, _<ℤ_, ltZ}
+use Rattle.integers.specs.Ring.{read, ring}
+use Rattle.integers.specs.Order.{≤ℤ-or-<ℤ, ≤ℤ-trans, ≤ℤ-of-≡, add-one-≤ℤ, <ℤ-of-add-one-≤ℤ, ltZ-true, ltZ-false, pos-≤ℤ, ≤-of-pos, nonneg}
+use Rattle.integers.specs.Linear.{le, lt, eq, _&_, none!, linear, lin≤, lin<, lin⊥}
+use Rattle.integers.specs.Within.{Within}
+use Rattle.integers.specs.MinMax.{min, max, min-≤ˡ, min-≤ʳ, min-greatest, max-≥ˡ, max-≥ʳ, max-least}
+use Rattle.edge.specs.declared.Axis.{Axis}
+use Rattle.edge.specs.declared.Cell.{Cell}
+use Rattle.edge.specs.declared.Span.{Span}
+use Rattle.edge.specs.Walk.{beyond}
+use Rattle.edge.specs.WalkLaws.{Direction, forward, still, backward, Steady}
+use Rattle.edge.specs.Inside.{Between, SomeStepInside}
+use Rattle.edge.specs.StepLaws.{Outside, between-or-outside}
+
+-- ---- one direction
+-- The walk has moved by `sign × t` after t steps, and is between the lines from `near` to `far`, both measured from its start. Where it stands still it
+-- is between them for all n steps, or for none.
+unfoldable pub strip : ℤ → ℤ → ℤ → ℤ → Span
+strip (pos zero) near far n = cond (ltZ near (pos 0)) (cond (ltZ (pos 0) far) (record { first = pos 0; last = n }) (record { first = n; last = pos 0 })) (record { first = n; last = pos 0 })
+strip (pos (suc s)) near far n = record { first = near; last = far }
+strip (negsuc s) near far n = record { first = negℤ far; last = negℤ near }
+
+-- from the start to a side, `scale` times over
+abbrev pub toSide : Axis → ℤ → ℤ
+toSide a side = a .scale *ℤ (side -ℤ a .start)
+
+abbrev pub stripOf : Axis → ℤ → ℤ → ℤ → Span
+stripOf a side w n = strip (a .sign) (toSide a side) (toSide a side +ℤ a .scale *ℤ w) n
+
+-- of the steps t from 0 to n, those with first ≤ t and t + 1 ≤ last are just the ones with P
+pub record StepsWith (P : ℤ → Type 0) (n : ℤ) (s : Span) : Type 0 where
+  pub to : (t : ℤ) → pos 0 ≤ℤ t → (t +ℤ pos 1) ≤ℤ n → P t → (s .first ≤ℤ t) × ((t +ℤ pos 1) ≤ℤ s .last)
+  pub from : (t : ℤ) → pos 0 ≤ℤ t → (t +ℤ pos 1) ≤ℤ n → s .first ≤ℤ t → (t +ℤ pos 1) ≤ℤ s .last → P t
+
+-- 2 a < 2 b + 1 of whole numbers
+low-of-odd : (a b : ℤ) → (pos 2 *ℤ a) <ℤ (pos 2 *ℤ b +ℤ pos 1) → a ≤ℤ b
+low-of-odd a b h = go (≤ℤ-or-<ℤ a b)
+  where
+    go : (a ≤ℤ b) ⊎ (b <ℤ a) → a ≤ℤ b
+    go (inl k) = k
+    go (inr k) = lin⊥ (a ∷ b ∷ []) (lt h & lt k) (search linear depth 40) tt
+
+module _ (k x side w n : ℤ) where
+  axis : ℤ → Axis
+  axis s = record { scale = k; start = x; sign = s }
+
+  abbrev near : ℤ
+  near = k *ℤ (side -ℤ x)
+
+  abbrev far : ℤ
+  far = k *ℤ (side -ℤ x) +ℤ k *ℤ w
+
+  steps-forward : StepsWith (Between (record { scale = k; start = x; sign = pos 1 }) side w) n (record { first = near; last = far })
+  steps-forward = record {
+    to = λ t h j b. (
+      low-of-odd near t (lin< (k ∷ x ∷ side ∷ t ∷ []) (lt (b .after)) (search linear depth 40) tt),
+      low-of-odd (t +ℤ pos 1) far (lin< (k ∷ x ∷ side ∷ w ∷ t ∷ []) (lt (b .before)) (search linear depth 40) tt),
+    );
+    from = λ t h j i l. record {
+      after = lin< (k ∷ x ∷ side ∷ t ∷ []) (le i) (search linear depth 40) tt;
+      before = lin< (k ∷ x ∷ side ∷ w ∷ t ∷ []) (le l) (search linear depth 40) tt;
+    };
+  }
+
+  steps-backward : StepsWith (Between (record { scale = k; start = x; sign = negsuc 0 }) side w) n (record { first = negℤ far; last = negℤ near })
+  steps-backward = record {
+    to = λ t h j b. (
+      low-of-odd (negℤ far) t (lin< (k ∷ x ∷ side ∷ w ∷ t ∷ []) (lt (b .before)) (search linear depth 40) tt),
+      low-of-odd (t +ℤ pos 1) (negℤ near) (lin< (k ∷ x ∷ side ∷ t ∷ []) (lt (b .after)) (search linear depth 40) tt),
+    );
+    from = λ t h j i l. record {
+      after = lin< (k ∷ x ∷ side ∷ t ∷ []) (le l) (search linear depth 40) tt;
+      before = lin< (k ∷ x ∷ side ∷ w ∷ t ∷ []) (le i) (search linear depth 40) tt;
+    };
+  }
+
+  -- standing still outside: no step is between, and no t has n ≤ t and t + 1 ≤ n
+  steps-none : ((t : ℤ) → Between (record { scale = k; start = x; sign = pos 0 }) side w t → ⊥)
+      → StepsWith (Between (record { scale = k; start = x; sign = pos 0 }) side w) n (record { first = n; last = pos 0 })
+  steps-none none = record { to = λ t h j b. absurd (none t b); from = λ t h j i l. lin⊥ (t ∷ n ∷ []) (le i & le j) (search linear depth 40) tt }
+
+  steps-still : (b c : Bool) → (b ≡ true → near <ℤ pos 0) → (b ≡ false → pos 0 ≤ℤ near) → (c ≡ true → pos 0 <ℤ far) → (c ≡ false → far ≤ℤ pos 0)
+      → StepsWith (Between (record { scale = k; start = x; sign = pos 0 }) side w) n
+      (cond b (cond c (record { first = pos 0; last = n }) (record { first = n; last = pos 0 })) (record { first = n; last = pos 0 }))
+  steps-still false c _ h _ _ = steps-none (λ t b. lin⊥ (k ∷ x ∷ side ∷ t ∷ []) (le (h refl) & lt (b .after)) (search linear depth 40) tt)
+  steps-still true false _ _ _ h = steps-none (λ t b. lin⊥ (k ∷ x ∷ side ∷ w ∷ t ∷ []) (le (h refl) & lt (b .before)) (search linear depth 40) tt)
+  steps-still true true g _ h _ = record {
+    to = λ t i j b. (i, j);
+    from = λ t i j _ _. record {
+      after = lin< (k ∷ x ∷ side ∷ t ∷ []) (lt (g refl)) (search linear depth 40) tt;
+      before = lin< (k ∷ x ∷ side ∷ w ∷ t ∷ []) (lt (h refl)) (search linear depth 40) tt;
+    };
+  }
+
+  steps-of : {s : ℤ} → Direction s → StepsWith (Between (record { scale = k; start = x; sign = s }) side w) n (strip s near far n)
+  unfolding strip
+  steps-of forward = steps-forward
+  steps-of backward = steps-backward
+  steps-of still = steps-still (ltZ near (pos 0)) (ltZ (pos 0) far) ltZ-true ltZ-false ltZ-true ltZ-false
+
+pub strip-steps : (a : Axis) → Steady a → (side w n : ℤ) → StepsWith (Between a side w) n (stripOf a side w n)
+strip-steps a s side w n = steps-of (a .scale) (a .start) side w n (s .signed)
+
+-- ---- both directions
+-- the steps from 0 to n in both spans
+abbrev pub meet : Span → Span → ℤ → Span
+meet r s n = record { first = max (pos 0) (max (r .first) (s .first)); last = min n (min (r .last) (s .last)) }
+
+abbrev pub span : Axis → Axis → Cell → ℤ → Span
+span a b c n = meet (stripOf a (c .left) (c .width) n) (stripOf b (c .top) (c .width) n) n
+
+meet-steps : {P Q : ℤ → Type 0} {n : ℤ} {r s : Span} → StepsWith P n r → StepsWith Q n s → StepsWith (λ t. P t × Q t) n (meet r s n)
+meet-steps {P} {Q} {n} {r} {s} p q = record {
+  to = λ t h k b.
+      let i = p .to t h k (b .0) in
+      let j = q .to t h k (b .1) in
+      (max-least h (max-least (i .0) (j .0)), min-greatest k (min-greatest (i .1) (j .1)));
+  from = λ t h k i j.
+      let i′ = ≤ℤ-trans (max-≥ʳ (pos 0) (max (r .first) (s .first))) i in
+      let j′ = ≤ℤ-trans j (min-≤ʳ n (min (r .last) (s .last))) in (
+        p .from t h k (≤ℤ-trans (max-≥ˡ (r .first) (s .first)) i′) (≤ℤ-trans j′ (min-≤ˡ (r .last) (s .last))),
+        q .from t h k (≤ℤ-trans (max-≥ʳ (r .first) (s .first)) i′) (≤ℤ-trans j′ (min-≤ʳ (r .last) (s .last))),
+      );
+}
+
+module _ (a b : Axis) (sa : Steady a) (sb : Steady b) (c : Cell) where
+  pub span-steps : (n : ℤ) → StepsWith (λ t. Between a (c .left) (c .width) t × Between b (c .top) (c .width) t) n (span a b c n)
+  span-steps n = meet-steps (strip-steps a sa (c .left) (c .width) n) (strip-steps b sb (c .top) (c .width) n)
+
+  pub span-low : (n : ℤ) → pos 0 ≤ℤ span a b c n .first
+  span-low n = max-≥ˡ (pos 0) (max (stripOf a (c .left) (c .width) n .first) (stripOf b (c .top) (c .width) n .first))
+
+  pub span-high : (n : ℤ) → span a b c n .last ≤ℤ n
+  span-high n = min-≤ˡ n (min (stripOf a (c .left) (c .width) n .last) (stripOf b (c .top) (c .width) n .last))
+
+  pub span-inside : {n : ℕ} → span a b c (pos n) .first <ℤ span a b c (pos n) .last → SomeStepInside a b c n
+  span-inside {n} h = go (span a b c (pos n) .first) (span-low (pos n)) refl
+    where
+      go : (t : ℤ) → pos 0 ≤ℤ t → span a b c (pos n) .first ≡ t → SomeStepInside a b c n
+      go (negsuc t) k e = absurd (k .le)
+      go (pos t) k e =
+          let i : (pos t +ℤ pos 1) ≤ℤ span a b c (pos n) .last = add-one-≤ℤ (subst (λ z. z <ℤ span a b c (pos n) .last) e h) in
+          let j : (pos t +ℤ pos 1) ≤ℤ pos n = ≤ℤ-trans i (span-high (pos n)) in
+          let l : t + 1 ≤ n = ≤-of-pos j in
+          let p = span-steps (pos n) .from (pos t) k j (≤ℤ-of-≡ e) i in
+          record { step = t; on = omega arith; x = p .0; y = p .1 }
+
+  pub inside-span : {n : ℕ} → SomeStepInside a b c n → span a b c (pos n) .first <ℤ span a b c (pos n) .last
+  inside-span {n} s =
+      let l = s .on in
+      let p = span-steps (pos n) .to (pos (s .step)) (nonneg (s .step)) (pos-≤ℤ {m = s .step + 1} (omega arith)) (s .x, s .y) in
+      <ℤ-of-add-one-≤ℤ (lin≤ (span a b c (pos n) .first ∷ span a b c (pos n) .last ∷ pos (s .step) ∷ []) (le (p .0) & le (p .1)) (search linear depth 40) tt)

@@ -1,0 +1,134 @@
+-- One direction of a walk between two sides: the held coordinate is linear along it, and the distance to the nearer side is linear up to the middle
+-- and from the middle on.
+--
+-- Main results
+--   toMiddle                      the step at which the middle is crossed
+--   ClosedRun                     the walk is between the sides, or on them, from step u to step v
+--   both-linear                   at cuts p ≤ u ≤ v ≤ q with the crossing of the middle at u or at v, `past` and `near` are linear on all three runs
+use mathlib.Core.Path.{_≡_, _∙_, ap, subst}
+use mathlib.Core.List.{[], _∷_}
+use mathlib.Core.Logic.{_⊎_, inl, inr}
+use lib.IntN.{ℤ, pos, negℤ, _+ℤ_, _-ℤ_, _*ℤ_}
+use lib.Signed.{_≤ℤ_, _<ℤ_}
+use Rattle.integers.specs.Ring.{read, ring}
+use Rattle.integers.specs.Order.{≤ℤ-or-<ℤ, ≤ℤ-trans, ≤ℤ-of-<ℤ}
+use Rattle.integers.specs.Linear.{le, lt, eq, _&_, none!, linear, lin≤, lin≡}
+use Rattle.integers.specs.MinMax.{min-eqˡ, min-eqʳ}
+use Rattle.integers.specs.Clamp.{clamp, clamp-below, clamp-inside, clamp-above}
+use Rattle.integers.specs.Tent.{tent-inside}
+use Rattle.edge.specs.declared.Axis.{Axis}
+use Rattle.edge.specs.Walk.{beyond, past, near}
+use Rattle.edge.specs.WalkLaws.{Direction, forward, still, backward, Steady}
+use Rattle.edge.specs.StepLaws.{Closed}
+use Rattle.edge.specs.Runs.{LinearOn, LinearThrice}
+use Rattle.edge.specs.Crossings.{toSide}
+
+-- the step at which a direction crosses the middle between its sides (any step, where it stands still)
+abbrev pub toMiddle : Axis → ℤ → ℤ → ℤ
+toMiddle a side half = a .sign *ℤ (toSide a side +ℤ a .scale *ℤ half)
+
+-- ---- linear runs
+linear-point : (f : ℤ → ℤ) {u v : ℤ} → v ≤ℤ u → LinearOn f u v
+linear-point f {u} {v} h = record {
+  offset = f u;
+  slope = pos 0;
+  line = λ t i j. ap f {y = u} (lin≡ (t ∷ u ∷ v ∷ []) (le h & le i & le j) (search linear depth 40) (tt, tt)) ∙ ring (f u ∷ t ∷ []) (search read depth 40) tt;
+}
+
+-- the walk is between the sides, or on them, from u to v
+pub record ClosedRun (a : Axis) (side w u v : ℤ) : Type 0 where
+  pub at : (t : ℤ) → u ≤ℤ t → t ≤ℤ v → Closed a side w t
+
+past-linear : {a : Axis} {side w u v : ℤ} → ClosedRun a side w u v → LinearOn (past a side w) u v
+past-linear {a} {side} {w} r = record {
+  offset = a .scale *ℤ (a .start -ℤ side);
+  slope = a .sign;
+  line = λ t i j. clamp-inside (r .at t i j .low) (r .at t i j .high);
+}
+
+-- from u to v the walk does not cross the middle
+data OneHalf (a : Axis) (side half u v : ℤ) : Type 0 where
+  before : ((t : ℤ) → u ≤ℤ t → t ≤ℤ v → beyond a side t ≤ℤ (a .scale *ℤ half)) → OneHalf a side half u v
+  behind : ((t : ℤ) → u ≤ℤ t → t ≤ℤ v → (a .scale *ℤ half) ≤ℤ beyond a side t) → OneHalf a side half u v
+
+near-linear : (a : Axis) (side half : ℤ) {w u v : ℤ} → w ≡ half +ℤ half → ClosedRun a side w u v → OneHalf a side half u v → LinearOn (near a side w) u v
+near-linear a side half {w} e r (before f) = record {
+  offset = a .scale *ℤ (a .start -ℤ side);
+  slope = a .sign;
+  line = λ t i j.
+      let d : a .scale *ℤ w ≡ a .scale *ℤ half +ℤ a .scale *ℤ half = ap (λ z. a .scale *ℤ z) e ∙ ring (a .scale ∷ half ∷ []) (search read depth 40) tt in
+      tent-inside (r .at t i j .low) (r .at t i j .high)
+      ∙ min-eqˡ (lin≤ (a .scale ∷ a .start ∷ a .sign ∷ side ∷ half ∷ w ∷ t ∷ []) (le (f t i j) & eq d) (search linear depth 40) tt);
+}
+near-linear a side half {w} e r (behind f) = record {
+  offset = a .scale *ℤ w -ℤ a .scale *ℤ (a .start -ℤ side);
+  slope = negℤ (a .sign);
+  line = λ t i j.
+      let d : a .scale *ℤ w ≡ a .scale *ℤ half +ℤ a .scale *ℤ half = ap (λ z. a .scale *ℤ z) e ∙ ring (a .scale ∷ half ∷ []) (search read depth 40) tt in
+      tent-inside (r .at t i j .low) (r .at t i j .high)
+      ∙ min-eqʳ (lin≤ (a .scale ∷ a .start ∷ a .sign ∷ side ∷ half ∷ w ∷ t ∷ []) (le (f t i j) & eq d) (search linear depth 40) tt)
+      ∙ ring (a .scale ∷ a .start ∷ a .sign ∷ side ∷ w ∷ t ∷ []) (search read depth 40) tt;
+}
+
+one-half : (k x side half : ℤ) {s u v : ℤ} → Direction s → (v ≤ℤ (s *ℤ (k *ℤ (side -ℤ x) +ℤ k *ℤ half))) ⊎ ((s *ℤ (k *ℤ (side -ℤ x) +ℤ k *ℤ half)) ≤ℤ u)
+    → OneHalf (record { scale = k; start = x; sign = s }) side half u v
+one-half k x side half {s} {u} {v} forward (inl h) = before (λ t i j. lin≤ (k ∷ x ∷ side ∷ half ∷ t ∷ v ∷ []) (le h & le j) (search linear depth 40) tt)
+one-half k x side half {s} {u} {v} forward (inr h) = behind (λ t i j. lin≤ (k ∷ x ∷ side ∷ half ∷ t ∷ u ∷ []) (le h & le i) (search linear depth 40) tt)
+one-half k x side half {s} {u} {v} backward (inl h) = behind (λ t i j. lin≤ (k ∷ x ∷ side ∷ half ∷ t ∷ v ∷ []) (le h & le j) (search linear depth 40) tt)
+one-half k x side half {s} {u} {v} backward (inr h) = before (λ t i j. lin≤ (k ∷ x ∷ side ∷ half ∷ t ∷ u ∷ []) (le h & le i) (search linear depth 40) tt)
+one-half k x side half {s} {u} {v} still h = go (≤ℤ-or-<ℤ (k *ℤ (x -ℤ side)) (k *ℤ half))
+  where
+    go : ((k *ℤ (x -ℤ side)) ≤ℤ (k *ℤ half)) ⊎ ((k *ℤ half) <ℤ (k *ℤ (x -ℤ side))) → OneHalf (record { scale = k; start = x; sign = pos 0 }) side half u v
+    go (inl g) = before (λ t i j. lin≤ (k ∷ x ∷ side ∷ half ∷ t ∷ []) (le g) (search linear depth 40) tt)
+    go (inr g) = behind (λ t i j. lin≤ (k ∷ x ∷ side ∷ half ∷ t ∷ []) (lt g) (search linear depth 40) tt)
+
+-- a run on one side of m, which is M held between p and q, is on one side of M, or a single step
+data Beside (M u v : ℤ) : Type 0 where
+  short : v ≤ℤ M → Beside M u v
+  beyond-it : M ≤ℤ u → Beside M u v
+  single : v ≤ℤ u → Beside M u v
+
+beside : (M p q : ℤ) {u v : ℤ} → p ≤ℤ q → p ≤ℤ u → v ≤ℤ q → (v ≤ℤ clamp M p q) ⊎ (clamp M p q ≤ℤ u) → Beside M u v
+beside M p q {u} {v} pq pu vq (inl h) = go (≤ℤ-or-<ℤ v M) (≤ℤ-or-<ℤ M p)
+  where
+    go : (v ≤ℤ M) ⊎ (M <ℤ v) → (M ≤ℤ p) ⊎ (p <ℤ M) → Beside M u v
+    go (inl i) j = short i
+    go (inr i) (inl j) = single (≤ℤ-trans (subst (λ z. v ≤ℤ z) (clamp-below q j) h) pu)
+    go (inr i) (inr j) = short (subst (λ z. v ≤ℤ z) (clamp-inside (≤ℤ-of-<ℤ j) (≤ℤ-trans (≤ℤ-of-<ℤ i) vq)) h)
+beside M p q {u} {v} pq pu vq (inr h) = go (≤ℤ-or-<ℤ M u) (≤ℤ-or-<ℤ q M)
+  where
+    go : (M ≤ℤ u) ⊎ (u <ℤ M) → (q ≤ℤ M) ⊎ (M <ℤ q) → Beside M u v
+    go (inl i) j = beyond-it i
+    go (inr i) (inl j) = single (≤ℤ-trans vq (subst (λ z. z ≤ℤ u) (clamp-above pq j) h))
+    go (inr i) (inr j) = beyond-it (subst (λ z. z ≤ℤ u) (clamp-inside (≤ℤ-trans pu (≤ℤ-of-<ℤ i)) (≤ℤ-of-<ℤ j)) h)
+
+near-linear-beside : (a : Axis) → Steady a → (side half : ℤ) {w u v : ℤ} → w ≡ half +ℤ half → ClosedRun a side w u v → Beside (toMiddle a side half) u v → LinearOn (near a side w) u v
+near-linear-beside a s side half {w} e r (short h) = near-linear a side half e r (one-half (a .scale) (a .start) side half (s .signed) (inl h))
+near-linear-beside a s side half {w} e r (beyond-it h) = near-linear a side half e r (one-half (a .scale) (a .start) side half (s .signed) (inr h))
+near-linear-beside a s side half {w} e r (single h) = linear-point (near a side w) h
+
+-- ---- one direction, at four cuts of which the middle two are m and another in their order
+pub record BothLinear (a : Axis) (side w p u v q : ℤ) : Type 0 where
+  pub whole : LinearThrice (past a side w) p u v q
+  pub tented : LinearThrice (near a side w) p u v q
+
+pub both-linear : (a : Axis) → Steady a → (side half : ℤ) {w p u v q : ℤ} → w ≡ half +ℤ half → p ≤ℤ q → p ≤ℤ u → u ≤ℤ v → v ≤ℤ q → ClosedRun a side w p q
+    → u ≤ℤ clamp (toMiddle a side half) p q → clamp (toMiddle a side half) p q ≤ℤ v → (v ≤ℤ clamp (toMiddle a side half) p q) ⊎ (clamp (toMiddle a side half) p q ≤ℤ u)
+    → BothLinear a side w p u v q
+both-linear a s side half {w} {p} {u} {v} {q} e pq pu uv vq r um mv m = record {
+  whole = record { first = past-linear r₁; second = past-linear r₂; third = past-linear r₃ };
+  tented = record {
+    first = near-linear-beside a s side half e r₁ (beside (toMiddle a side half) p q pq (lin≤ (p ∷ []) none! (search linear depth 40) tt) (≤ℤ-trans uv vq) (inl um));
+    second = near-linear-beside a s side half e r₂ (beside (toMiddle a side half) p q pq pu vq m);
+    third = near-linear-beside a s side half e r₃ (beside (toMiddle a side half) p q pq (≤ℤ-trans pu uv) (lin≤ (q ∷ []) none! (search linear depth 40) tt) (inr mv));
+  };
+}
+  where
+    r₁ : ClosedRun a side w p u
+    r₁ = record { at = λ t i j. r .at t i (≤ℤ-trans j (≤ℤ-trans uv vq)) }
+
+    r₂ : ClosedRun a side w u v
+    r₂ = record { at = λ t i j. r .at t (≤ℤ-trans pu i) (≤ℤ-trans j vq) }
+
+    r₃ : ClosedRun a side w v q
+    r₃ = record { at = λ t i j. r .at t (≤ℤ-trans (≤ℤ-trans pu uv) i) j }

@@ -1,0 +1,20 @@
+-- What an edge adds to the table: its rounded details in a cell, and its term of the root.
+--
+-- Definitions
+--   details             h, v and d, each rounded on its own
+--   rootTerm            the edge's term of the signed area
+use lib.IntN.{ℤ, _-ℤ_, _*ℤ_}
+use Rattle.integers.specs.Rounding.{roundHalfAway}
+use Rattle.edge.specs.declared.Edge.{Edge}
+use Rattle.edge.specs.declared.Cell.{Cell}
+use Rattle.edge.specs.declared.Details.{Details}
+use Rattle.edge.specs.Walk.{steps}
+use Rattle.edge.specs.Integrals.{hNum, vNum, dNum}
+
+-- "Each edge's three values are rounded on their own, to the nearest whole unit, halves away from zero."
+unfoldable pub details : Edge → Cell → Details
+details e c = record { h = roundHalfAway (hNum e c) (steps e); v = roundHalfAway (vNum e c) (steps e); d = roundHalfAway (dNum e c) (steps e) }
+
+-- "Signed area in units is the sum over edges of x0 × y1 − x1 × y0"
+unfoldable pub rootTerm : Edge → ℤ
+rootTerm e = e .x0 *ℤ e .y1 -ℤ e .x1 *ℤ e .y0
