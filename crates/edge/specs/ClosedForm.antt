@@ -112,7 +112,7 @@ module _ (a b : Axis) (sa : Steady a) (sb : Steady b) (c : Cell) (half : ℤ) (e
   rests-late t h j = rests t (≤ℤ-trans (≤ℤ-trans p≥0 p≤q) h) j (inr h)
 
   -- ---- the cuts
-  ordered : Ordered (k .first) (k .second) (k .third) (k .fourth) (pos n)
+  pub ordered : Ordered (k .first) (k .second) (k .third) (k .fourth) (pos n)
   ordered = record {
     p≥0 = p≥0;
     a≥p = min-greatest (clamp-low (toMiddle a (c .left) half) p q) (clamp-low (toMiddle b (c .top) half) p q);

@@ -18,3 +18,16 @@ pub mod ZeroLaw
 pub mod Crossings
 pub mod OneDirection
 pub mod ClosedForm
+pub mod Refinement
+pub mod InsideRefinement
+pub mod Straight
+pub mod Quarter
+pub mod WholeTile
+pub mod SumBounds
+pub mod Bounds
+pub mod Reversal
+-- ---- what the code asks and works out
+pub mod Room
+pub mod Code
+pub mod InQuarter
+pub mod WalkInside

@@ -4,6 +4,8 @@
 -- Main results
 --   toMiddle                      the step at which the middle is crossed
 --   ClosedRun                     the walk is between the sides, or on them, from step u to step v
+--   past-linear                   there the held coordinate is linear
+--   OneHalf, near-linear          and where it does not cross the middle either, so is the distance to the nearer side
 --   both-linear                   at cuts p ≤ u ≤ v ≤ q with the crossing of the middle at u or at v, `past` and `near` are linear on all three runs
 use mathlib.Core.Path.{_≡_, _∙_, ap, subst}
 use mathlib.Core.List.{[], _∷_}
@@ -39,7 +41,7 @@ linear-point f {u} {v} h = record {
 pub record ClosedRun (a : Axis) (side w u v : ℤ) : Type 0 where
   pub at : (t : ℤ) → u ≤ℤ t → t ≤ℤ v → Closed a side w t
 
-past-linear : {a : Axis} {side w u v : ℤ} → ClosedRun a side w u v → LinearOn (past a side w) u v
+pub past-linear : {a : Axis} {side w u v : ℤ} → ClosedRun a side w u v → LinearOn (past a side w) u v
 past-linear {a} {side} {w} r = record {
   offset = a .scale *ℤ (a .start -ℤ side);
   slope = a .sign;
@@ -47,11 +49,11 @@ past-linear {a} {side} {w} r = record {
 }
 
 -- from u to v the walk does not cross the middle
-data OneHalf (a : Axis) (side half u v : ℤ) : Type 0 where
+pub data OneHalf (a : Axis) (side half u v : ℤ) : Type 0 where
   before : ((t : ℤ) → u ≤ℤ t → t ≤ℤ v → beyond a side t ≤ℤ (a .scale *ℤ half)) → OneHalf a side half u v
   behind : ((t : ℤ) → u ≤ℤ t → t ≤ℤ v → (a .scale *ℤ half) ≤ℤ beyond a side t) → OneHalf a side half u v
 
-near-linear : (a : Axis) (side half : ℤ) {w u v : ℤ} → w ≡ half +ℤ half → ClosedRun a side w u v → OneHalf a side half u v → LinearOn (near a side w) u v
+pub near-linear : (a : Axis) (side half : ℤ) {w u v : ℤ} → w ≡ half +ℤ half → ClosedRun a side w u v → OneHalf a side half u v → LinearOn (near a side w) u v
 near-linear a side half {w} e r (before f) = record {
   offset = a .scale *ℤ (a .start -ℤ side);
   slope = a .sign;

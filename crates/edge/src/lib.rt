@@ -1,3 +1,21 @@
+ghost use mathlib.Core.Path.{_≡_};
+ghost use mathlib.Core.Bool.{true};
+ghost use lib.IntN.{pos, _+ℤ_, _-ℤ_, _*ℤ_};
+ghost use lib.Signed.{_≤ℤ_, _<ℤ_};
+ghost use Rattle.integers.specs.Units.{widthTimesExtentLimit, numeratorLimit};
+ghost use Rattle.integers.specs.Within.{Within};
+ghost use Rattle.integers.specs.MinMax.{min, max};
+ghost use Rattle.integers.specs.Clamp.{clamp};
+ghost use Rattle.edge.specs.Walk.{extent as extentOf, sign as signOf, dx, dy, ax as axOf, ay as ayOf, beyond as beyondOf};
+ghost use Rattle.edge.specs.Inside.{Inside};
+ghost use Rattle.edge.specs.Rounded.{details as detailsOf};
+ghost use Rattle.edge.specs.Crossings.{strip as stripSteps, stripOf, meet as meetOf, span as spanOf};
+ghost use Rattle.edge.specs.OneDirection.{toMiddle};
+ghost use Rattle.edge.specs.ClosedForm.{cutsAt};
+ghost use Rattle.edge.specs.Room.{coordinateLimit, extentLimit, crossingLimit, Measured, Even, Room, AxisRoom, SamplesWithin, SamplesClosed, DetailsWithin};
+ghost use Rattle.edge.specs.Code.{IsWalk, Decides, Shows, SameHalf, SameQuarter, beyondAt, nearAt, pieceSum, numeratorsAt, roundedBy};
+use integers::div_round_half_away;
+
 pub struct Edge {
     pub x0: i64,
     pub y0: i64,
@@ -17,20 +35,377 @@ pub struct Details {
     pub d: i64,
 }
 
+// One direction of a walk.
 pub struct Axis {
     pub scale: i64,
     pub start: i64,
     pub sign: i64,
 }
 
+pub struct Walk {
+    pub edge: Edge,
+    pub x: Axis,
+    pub y: Axis,
+    pub steps: i64,
+    pub divisor: i64,
+}
+
+// The steps t with first <= t < last.
 pub struct Span {
     pub first: i64,
     pub last: i64,
 }
 
+// A number at each of the four cuts.
 pub struct Samples {
     pub first: i64,
     pub second: i64,
     pub third: i64,
     pub fourth: i64,
+}
+
+fn low(a: i64, b: i64) -> i64
+    ensures { λ r. ⌜ r ≡ min a b ⌝ }
+{
+    if a <= b { a } else { b }
+}
+
+fn high(a: i64, b: i64) -> i64
+    ensures { λ r. ⌜ r ≡ max a b ⌝ }
+{
+    if a <= b { b } else { a }
+}
+
+fn hold(v: i64, lo: i64, hi: i64) -> i64
+    ensures { λ r. ⌜ r ≡ clamp v lo hi ⌝ }
+{
+    high(lo, low(v, hi))
+}
+
+fn extent(d: i64) -> i64
+    requires { ⌜ Within (pos extentLimit) d ⌝ }
+    ensures { λ r. ⌜ r ≡ pos (extentOf d) ⌝ }
+{
+    if d > 0 {
+        d
+    } else if d < 0 {
+        -d
+    } else {
+        1
+    }
+}
+
+fn sign(d: i64) -> i64
+    ensures { λ r. ⌜ r ≡ signOf d ⌝ }
+{
+    if d > 0 {
+        1
+    } else if d < 0 {
+        -1
+    } else {
+        0
+    }
+}
+
+// ---- the walk
+
+fn walk_along(e: Edge, ax: i64, ay: i64, sx: i64, sy: i64) -> Walk
+    requires { ⌜ Measured e × (ax ≡ pos (axOf e)) × (ay ≡ pos (ayOf e)) × (sx ≡ signOf (dx e)) × (sy ≡ signOf (dy e)) ⌝ }
+    ensures { λ w. ⌜ (w .edge ≡ e) × IsWalk w ⌝ }
+{
+    if sx == 0 || sy == 0 || ax == ay {
+        Walk {
+            edge: e,
+            x: Axis {
+                scale: 1,
+                start: e.x0,
+                sign: sx,
+            },
+            y: Axis {
+                scale: 1,
+                start: e.y0,
+                sign: sy,
+            },
+            steps: high(ax, ay),
+            divisor: 1,
+        }
+    } else {
+        let n = ax * ay;
+        Walk {
+            edge: e,
+            x: Axis {
+                scale: ay,
+                start: e.x0,
+                sign: sx,
+            },
+            y: Axis {
+                scale: ax,
+                start: e.y0,
+                sign: sy,
+            },
+            steps: n,
+            divisor: n,
+        }
+    }
+}
+
+pub fn walk_of(e: Edge) -> Walk
+    requires { ⌜ Measured e ⌝ }
+    ensures { λ w. ⌜ (w .edge ≡ e) × IsWalk w ⌝ }
+{
+    let dx = e.x1 - e.x0;
+    let dy = e.y1 - e.y0;
+    walk_along(e, extent(dx), extent(dy), sign(dx), sign(dy))
+}
+
+// ---- the steps inside a cell
+
+fn strip(s: i64, near: i64, far: i64, n: i64) -> Span
+    requires { ⌜ Within (pos crossingLimit) near × Within (pos crossingLimit) far ⌝ }
+    ensures { λ r. ⌜ r ≡ stripSteps s near far n ⌝ }
+{
+    if s > 0 {
+        Span {
+            first: near,
+            last: far,
+        }
+    } else if s < 0 {
+        Span {
+            first: -far,
+            last: -near,
+        }
+    } else if near >= 0 {
+        Span { first: n, last: 0 }
+    } else if far <= 0 {
+        Span { first: n, last: 0 }
+    } else {
+        Span { first: 0, last: n }
+    }
+}
+
+fn strip_of(a: Axis, side: i64, width: i64, n: i64) -> Span
+    requires { ⌜ AxisRoom a side width ⌝ }
+    ensures { λ r. ⌜ r ≡ stripOf a side width n ⌝ }
+{
+    let near = a.scale * (side - a.start);
+    strip(a.sign, near, near + a.scale * width, n)
+}
+
+fn meet(r: Span, s: Span, n: i64) -> Span
+    ensures { λ m. ⌜ m ≡ meetOf r s n ⌝ }
+{
+    Span {
+        first: high(0, high(r.first, s.first)),
+        last: low(n, low(r.last, s.last)),
+    }
+}
+
+// The steps of the walk that lie strictly inside the cell.
+pub fn span_in(w: Walk, c: Cell) -> Span
+    requires { ⌜ IsWalk w × Room (w .edge) c ⌝ }
+    ensures { λ s. ⌜ s ≡ spanOf (w .x) (w .y) c (w .steps) ⌝ }
+{
+    let n = w.steps;
+    meet(
+        strip_of(w.x, c.left, c.width, n),
+        strip_of(w.y, c.top, c.width, n),
+        n,
+    )
+}
+
+// Does some part of the edge lie strictly inside the cell?
+pub fn comes_inside(w: Walk, c: Cell) -> bool
+    requires { ⌜ IsWalk w × Room (w .edge) c ⌝ }
+    ensures { λ b. ⌜ Decides b (Inside (w .edge) c) ⌝ }
+{
+    let s = span_in(w, c);
+    s.first < s.last
+}
+
+// ---- the closed form
+
+fn middle_of(a: Axis, side: i64, half: i64) -> i64
+    requires { ⌜ AxisRoom a side half ⌝ }
+    ensures { λ r. ⌜ r ≡ toMiddle a side half ⌝ }
+{
+    a.sign * (a.scale * (side - a.start) + a.scale * half)
+}
+
+fn cuts_of(s: Span, x: i64, y: i64) -> Samples
+    ensures { λ k. ⌜ k ≡ cutsAt (s .first) (s .last) x y ⌝ }
+{
+    let a = hold(x, s.first, s.last);
+    let b = hold(y, s.first, s.last);
+    Samples {
+        first: s.first,
+        second: low(a, b),
+        third: high(a, b),
+        fourth: s.last,
+    }
+}
+
+fn beyond(k: i64, x: i64, s: i64, side: i64, t: i64) -> i64
+    requires { ⌜ (pos 0 ≤ℤ k) × (k ≤ℤ pos extentLimit) × Within (pos coordinateLimit) x × Within (pos 1) s × Within (pos coordinateLimit) side × Within (pos crossingLimit) t ⌝ }
+    ensures { λ r. ⌜ r ≡ k *ℤ (x -ℤ side) +ℤ s *ℤ t ⌝ }
+{
+    k * (x - side) + s * t
+}
+
+fn beyond_at(a: Axis, side: i64, width: i64, k: Samples) -> Samples
+    requires { ⌜ AxisRoom a side width × SamplesWithin (pos crossingLimit) k ⌝ }
+    ensures { λ u. ⌜ u ≡ beyondAt a side k ⌝ }
+{
+    Samples {
+        first: beyond(a.scale, a.start, a.sign, side, k.first),
+        second: beyond(a.scale, a.start, a.sign, side, k.second),
+        third: beyond(a.scale, a.start, a.sign, side, k.third),
+        fourth: beyond(a.scale, a.start, a.sign, side, k.fourth),
+    }
+}
+
+fn nearer(m: i64, u: i64) -> i64
+    requires { ⌜ Within (pos widthTimesExtentLimit) m × Within (pos widthTimesExtentLimit) u ⌝ }
+    ensures { λ r. ⌜ r ≡ min u (m -ℤ u) ⌝ }
+{
+    low(u, m - u)
+}
+
+fn near_at(m: i64, u: Samples) -> Samples
+    requires { ⌜ Within (pos widthTimesExtentLimit) m × SamplesWithin (pos widthTimesExtentLimit) u ⌝ }
+    ensures { λ r. ⌜ r ≡ nearAt m u ⌝ }
+{
+    Samples {
+        first: nearer(m, u.first),
+        second: nearer(m, u.second),
+        third: nearer(m, u.third),
+        fourth: nearer(m, u.fourth),
+    }
+}
+
+fn piece(f0: i64, f1: i64, g0: i64, g1: i64) -> i64
+    requires { ⌜ Within (pos widthTimesExtentLimit) f0 × Within (pos widthTimesExtentLimit) f1 × Within (pos widthTimesExtentLimit) g0 × Within (pos widthTimesExtentLimit) g1 ⌝ }
+    ensures { λ r. ⌜ r ≡ (f0 +ℤ f1) *ℤ (g1 -ℤ g0) ⌝ }
+{
+    (f0 + f1) * (g1 - g0)
+}
+
+fn pieces(f: Samples, g: Samples) -> i64
+    requires { ⌜ SamplesWithin (pos widthTimesExtentLimit) f × SamplesWithin (pos widthTimesExtentLimit) g ⌝ }
+    ensures { λ r. ⌜ r ≡ pieceSum f g ⌝ }
+{
+    let first = piece(f.first, f.second, g.first, g.second);
+    let second = piece(f.second, f.third, g.second, g.third);
+    let third = piece(f.third, f.fourth, g.third, g.fourth);
+    first + second + third
+}
+
+fn numerators(a: Axis, b: Axis, c: Cell, k: Samples) -> Details
+    requires { ⌜ AxisRoom a (c .left) (c .width) × AxisRoom b (c .top) (c .width) × SamplesWithin (pos crossingLimit) k × SamplesClosed a (c .left) (c .width) k × SamplesClosed b (c .top) (c .width) k ⌝ }
+    ensures { λ m. ⌜ m ≡ numeratorsAt a b c k ⌝ }
+{
+    let x = beyond_at(a, c.left, c.width, k);
+    let y = beyond_at(b, c.top, c.width, k);
+    let nx = near_at(a.scale * c.width, x);
+    let ny = near_at(b.scale * c.width, y);
+    Details {
+        h: pieces(nx, y),
+        v: -pieces(ny, x),
+        d: pieces(nx, ny),
+    }
+}
+
+// Each on its own, to the nearest whole number, halves away from zero; whole numbers as they are.
+fn round_all(m: Details, n: i64) -> Details
+    requires { ⌜ pos 0 <ℤ n ⌝ }
+    ensures { λ r. ⌜ r ≡ roundedBy n m ⌝ }
+{
+    if n == 1 {
+        m
+    } else {
+        Details {
+            h: div_round_half_away(m.h, n),
+            v: div_round_half_away(m.v, n),
+            d: div_round_half_away(m.d, n),
+        }
+    }
+}
+
+// ---- an edge wholly inside one quarter: no division
+
+fn same_half(p: i64, q: i64, side: i64, half: i64) -> bool
+    requires { ⌜ Within (pos coordinateLimit) side × (pos 0 ≤ℤ half) × (half ≤ℤ pos coordinateLimit) ⌝ }
+    ensures { λ b. ⌜ Shows b (SameHalf side half p q) ⌝ }
+{
+    let first = low(p, q);
+    let last = high(p, q);
+    let middle = side + half;
+    if last <= middle {
+        side <= first
+    } else {
+        middle <= first && last <= middle + half
+    }
+}
+
+fn same_quarter(e: Edge, c: Cell, half: i64) -> bool
+    requires { ⌜ Room e c × (c .width ≡ half +ℤ half) × (pos 0 ≤ℤ half) ⌝ }
+    ensures { λ b. ⌜ Shows b (SameQuarter e c half) ⌝ }
+{
+    same_half(e.x0, e.x1, c.left, half) && same_half(e.y0, e.y1, c.top, half)
+}
+
+fn quarter_details(e: Edge, c: Cell, half: i64) -> Details
+    requires { ⌜ Room e c × (c .width ≡ half +ℤ half) × (pos 0 ≤ℤ half) × SameQuarter e c half ⌝ }
+    ensures { λ r. ⌜ r ≡ detailsOf e c ⌝ }
+{
+    let x0 = nearer(c.width, e.x0 - c.left);
+    let y0 = nearer(c.width, e.y0 - c.top);
+    let x1 = nearer(c.width, e.x1 - c.left);
+    let y1 = nearer(c.width, e.y1 - c.top);
+    Details {
+        h: (x0 + x1) * (e.y1 - e.y0),
+        v: -((y0 + y1) * (e.x1 - e.x0)),
+        d: (x0 + x1) * (y1 - y0),
+    }
+}
+
+// ---- the rounded details
+
+fn half_of(width: i64) -> i64
+    requires { ⌜ Even width ⌝ }
+    ensures { λ h. ⌜ (width ≡ h +ℤ h) × (pos 0 ≤ℤ h) ⌝ }
+{
+    width / 2
+}
+
+fn cut_details(w: Walk, c: Cell, half: i64, s: Span) -> Details
+    requires { ⌜ IsWalk w × Room (w .edge) c × (c .width ≡ half +ℤ half) × (pos 0 ≤ℤ half) × (s ≡ spanOf (w .x) (w .y) c (w .steps)) × (s .first <ℤ s .last) ⌝ }
+    ensures { λ r. ⌜ r ≡ detailsOf (w .edge) c ⌝ }
+{
+    let k = cuts_of(s, middle_of(w.x, c.left, half), middle_of(w.y, c.top, half));
+    round_all(numerators(w.x, w.y, c, k), w.divisor)
+}
+
+// The rounded details of the walk's edge in the cell, given the steps inside.
+pub fn details_over(w: Walk, c: Cell, s: Span) -> Details
+    requires { ⌜ IsWalk w × Room (w .edge) c × (s ≡ spanOf (w .x) (w .y) c (w .steps)) ⌝ }
+    ensures { λ r. ⌜ r ≡ detailsOf (w .edge) c ⌝ }
+{
+    if s.first < s.last {
+        let half = half_of(c.width);
+        if same_quarter(w.edge, c, half) {
+            quarter_details(w.edge, c, half)
+        } else {
+            cut_details(w, c, half, s)
+        }
+    } else {
+        Details { h: 0, v: 0, d: 0 }
+    }
+}
+
+// The rounded details of the walk's edge in the cell.
+pub fn details_in(w: Walk, c: Cell) -> Details
+    requires { ⌜ IsWalk w × Room (w .edge) c ⌝ }
+    ensures { λ r. ⌜ r ≡ detailsOf (w .edge) c ⌝ }
+{
+    details_over(w, c, span_in(w, c))
 }

@@ -1,0 +1,86 @@
+-- Definitions that go by a sign, as the code tests it.
+--
+-- Main results
+--   sign-positive, sign-negative, sign-zero            of the sign
+--   extent-positive, extent-negative, extent-zero      of the extent
+--   strip-forward, strip-backward,
+--   strip-between, strip-outside                       of the steps between two lines
+use mathlib.Core.Path.{_≡_, refl, _∙_, ap}
+use mathlib.Core.List.{[], _∷_}
+use mathlib.Core.Logic.{_⊎_, inl, inr}
+use mathlib.Core.Bool.{Bool, true, false, cond}
+use Prim.Native.Nat.{zero, suc}
+use lib.IntN.{ℤ, pos, negsuc, negℤ, _-ℤ_}
+use lib.Signed.{_≤ℤ_, _<ℤ_, ltZ}
+use Rattle.integers.specs.Ring.{read, ring}
+use Rattle.integers.specs.Order.{nonneg, ≤ℤ-antisym, ltZ-true, ltZ-false}
+use Rattle.integers.specs.Linear.{le, lt, _&_, linear, lin⊥}
+use Rattle.edge.specs.declared.Span.{Span}
+use Rattle.edge.specs.Walk.{extent, sign}
+use Rattle.edge.specs.Crossings.{strip}
+
+pub sign-positive : (d : ℤ) → pos 0 <ℤ d → sign d ≡ pos 1
+unfolding sign
+sign-positive (pos zero) h = absurd (h .lt)
+sign-positive (pos (suc n)) h = refl
+sign-positive (negsuc n) h = absurd (h .lt)
+
+pub sign-negative : (d : ℤ) → d <ℤ pos 0 → sign d ≡ negsuc 0
+unfolding sign
+sign-negative (pos zero) h = absurd (h .lt)
+sign-negative (pos (suc n)) h = lin⊥ (pos n ∷ []) (lt h & le (nonneg n)) (search linear depth 40) tt
+sign-negative (negsuc n) h = refl
+
+pub sign-zero : {d : ℤ} → d ≤ℤ pos 0 → pos 0 ≤ℤ d → sign d ≡ pos 0
+unfolding sign
+sign-zero h k = ap sign (≤ℤ-antisym h k)
+
+pub extent-positive : (d : ℤ) → pos 0 <ℤ d → pos (extent d) ≡ d
+unfolding extent
+extent-positive (pos zero) h = absurd (h .lt)
+extent-positive (pos (suc n)) h = refl
+extent-positive (negsuc n) h = absurd (h .lt)
+
+pub extent-negative : (d : ℤ) → d <ℤ pos 0 → pos (extent d) ≡ pos 0 -ℤ d
+unfolding extent
+extent-negative (pos zero) h = absurd (h .lt)
+extent-negative (pos (suc n)) h = lin⊥ (pos n ∷ []) (lt h & le (nonneg n)) (search linear depth 40) tt
+extent-negative (negsuc n) h = ring (pos n ∷ []) (search read depth 40) tt
+
+pub extent-zero : {d : ℤ} → d ≤ℤ pos 0 → pos 0 ≤ℤ d → pos (extent d) ≡ pos 1
+unfolding extent
+extent-zero h k = ap (λ d. pos (extent d)) (≤ℤ-antisym h k)
+
+pub strip-forward : (s near far n : ℤ) → pos 0 <ℤ s → strip s near far n ≡ record { first = near; last = far }
+unfolding strip
+strip-forward (pos zero) near far n h = absurd (h .lt)
+strip-forward (pos (suc s)) near far n h = refl
+strip-forward (negsuc s) near far n h = absurd (h .lt)
+
+pub strip-backward : (s near far n : ℤ) → s <ℤ pos 0 → strip s near far n ≡ record { first = negℤ far; last = negℤ near }
+unfolding strip
+strip-backward (pos zero) near far n h = absurd (h .lt)
+strip-backward (pos (suc s)) near far n h = lin⊥ (pos s ∷ []) (lt h & le (nonneg s)) (search linear depth 40) tt
+strip-backward (negsuc s) near far n h = refl
+
+-- standing still between the lines, or not
+pub strip-between : {s near far : ℤ} (n : ℤ) → s ≤ℤ pos 0 → pos 0 ≤ℤ s → near <ℤ pos 0 → pos 0 <ℤ far → strip s near far n ≡ record { first = pos 0; last = n }
+unfolding strip
+strip-between {s} {near} {far} n h k i j = ap (λ s. strip s near far n) (≤ℤ-antisym h k) ∙ go (ltZ near (pos 0)) (ltZ (pos 0) far) ltZ-false ltZ-false
+  where
+    go : (b c : Bool) → (b ≡ false → pos 0 ≤ℤ near) → (c ≡ false → far ≤ℤ pos 0)
+        → _≡_ {A = Span} (cond b (cond c (record { first = pos 0; last = n }) (record { first = n; last = pos 0 })) (record { first = n; last = pos 0 })) (record { first = pos 0; last = n })
+    go true true _ _ = refl
+    go true false _ q = lin⊥ (far ∷ []) (lt j & le (q refl)) (search linear depth 40) tt
+    go false c p _ = lin⊥ (near ∷ []) (lt i & le (p refl)) (search linear depth 40) tt
+
+pub strip-outside : {s near far : ℤ} (n : ℤ) → s ≤ℤ pos 0 → pos 0 ≤ℤ s → (pos 0 ≤ℤ near) ⊎ (far ≤ℤ pos 0) → strip s near far n ≡ record { first = n; last = pos 0 }
+unfolding strip
+strip-outside {s} {near} {far} n h k o = ap (λ s. strip s near far n) (≤ℤ-antisym h k) ∙ go (ltZ near (pos 0)) (ltZ (pos 0) far) ltZ-true ltZ-true o
+  where
+    go : (b c : Bool) → (b ≡ true → near <ℤ pos 0) → (c ≡ true → pos 0 <ℤ far) → (pos 0 ≤ℤ near) ⊎ (far ≤ℤ pos 0)
+        → _≡_ {A = Span} (cond b (cond c (record { first = pos 0; last = n }) (record { first = n; last = pos 0 })) (record { first = n; last = pos 0 })) (record { first = n; last = pos 0 })
+    go false c _ _ _ = refl
+    go true false _ _ _ = refl
+    go true true p q (inl i) = lin⊥ (near ∷ []) (le i & lt (p refl)) (search linear depth 40) tt
+    go true true p q (inr i) = lin⊥ (far ∷ []) (le i & lt (q refl)) (search linear depth 40) tt

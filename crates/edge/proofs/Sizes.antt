@@ -1,0 +1,50 @@
+-- How large things are: coordinates, their differences and extents, and a cell's width.
+--
+-- Main results
+--   coordinate, difference        a coordinate, and a difference of two, as the machine has them
+--   extent-within                 the extent of a difference
+--   width-within, half-high       what `Room` says of a cell's width and of half of it
+use mathlib.Core.Path.{_≡_}
+use mathlib.Core.List.{[], _∷_}
+use Prim.Native.Nat.{zero, suc}
+use lib.IntN.{ℤ, pos, negsuc, _+ℤ_, _-ℤ_}
+use lib.Signed.{_≤ℤ_}
+use Rattle.integers.specs.Order.{positive, add-one-≤ℤ, ≤ℤ-mul}
+use Rattle.integers.specs.Linear.{le, eq, _&_, none!, linear, lin≤}
+use Rattle.integers.specs.Units.{widthTimesExtentLimit}
+use Rattle.integers.specs.Within.{Within, within-neg}
+use Rattle.edge.specs.declared.Edge.{Edge}
+use Rattle.edge.specs.declared.Cell.{Cell}
+use Rattle.edge.specs.Walk.{extent, dx, ax}
+use Rattle.edge.specs.WalkLaws.{extent-pos}
+use Rattle.edge.specs.Room.{coordinateLimit, extentLimit, Room}
+use Rattle.edge.proofs.Bits.{back-is}
+use Rattle.edge.proofs.Held.{back, Held, held-sub}
+
+pub coordinate : {x : ℤ} → Within (pos coordinateLimit) x → Held coordinateLimit (back x) x
+coordinate p = record { is = back-is tt p; within = p }
+
+pub difference : {a b : ℤ} → Within (pos coordinateLimit) a → Within (pos coordinateLimit) b → Held extentLimit (back b -ℤ back a) (b -ℤ a)
+difference p q = held-sub (coordinate q) (coordinate p)
+
+pub extent-within : (d : ℤ) → Within (pos extentLimit) d → Within (pos extentLimit) (pos (extent d))
+unfolding extent
+extent-within (pos zero) w = record { low = lin≤ [] none! (search linear depth 40) tt; high = lin≤ [] none! (search linear depth 40) tt }
+extent-within (pos (suc n)) w = w
+extent-within (negsuc n) w = within-neg w
+
+-- ---- a cell
+module _ {e : Edge} {c : Cell} (r : Room e c) {half : ℤ} (m : c .width ≡ half +ℤ half) (h : pos 0 ≤ℤ half) where
+  width-low : pos 0 ≤ℤ c .width
+  width-low = lin≤ (c .width ∷ half ∷ []) (eq m & le h) (search linear depth 40) tt
+
+  -- the extent is at least 1
+  width-high : c .width ≤ℤ pos widthTimesExtentLimit
+  width-high =
+      lin≤ (c .width ∷ pos (ax e) ∷ []) (le (r .wide) & le (≤ℤ-mul (add-one-≤ℤ (positive (extent-pos (dx e)))) width-low)) (search linear depth 40) tt
+
+  pub width-within : Within (pos widthTimesExtentLimit) (c .width)
+  width-within = record { low = lin≤ (c .width ∷ []) (le width-low) (search linear depth 40) tt; high = width-high }
+
+  pub half-high : half ≤ℤ pos coordinateLimit
+  half-high = lin≤ (c .width ∷ half ∷ []) (eq m & le h & le width-high) (search linear depth 40) tt

@@ -1,0 +1,45 @@
+-- The steps strictly inside a cell: those between the sides both ways.
+use mathlib.Core.Path.{_≡_, _∙_, ap, ap₂}
+use lib.IntN.{ℤ}
+use borrow.Author.Needs.{needs}
+use Rattle.edge.specs.declared.Axis.{Axis}
+use Rattle.edge.specs.declared.Span.{Span}
+use Rattle.edge.specs.Crossings.{stripOf, meet}
+use Rattle.edge.proofs.Bits.{back-is, fits-within}
+use Rattle.edge.proofs.WalkRoom.{x-room, y-room, back-room, width-within, steps-within}
+use Rattle.edge.proofs.span_in.Statement.{statement}
+use Rattle.edge.proofs.span_in.Tie as tie
+
+strip-of-requires : tie.Need-strip-of-requires
+strip-of-requires c κs =
+    let p = c .before .before .before .pre in
+    back-room (fits-within tt (p .1 .left)) (fits-within tt (width-within (p .1))) (x-room (p .0) (p .1))
+
+strip-of-requires-2 : tie.Need-strip-of-requires-2
+strip-of-requires-2 c κs =
+    let p = c .before .before .before .before .before .before .pre in
+    back-room (fits-within tt (p .1 .top)) (fits-within tt (width-within (p .1))) (y-room (p .0) (p .1))
+
+meet-requires : tie.Need-meet-requires
+meet-requires c κs = search needs
+
+strip-of-eq : (a : Axis) {p p′ w w′ n n′ : ℤ} → p ≡ p′ → w ≡ w′ → n ≡ n′ → stripOf a p w n ≡ stripOf a p′ w′ n′
+strip-of-eq a {p} {p′} {w} {w′} {n} {n′} i j k = ap₂ (λ x y. stripOf a x y n) i j ∙ ap (stripOf a p′ w′) k
+
+meet-eq : {r r′ s s′ : Span} {n n′ : ℤ} → r ≡ r′ → s ≡ s′ → n ≡ n′ → meet r s n ≡ meet r′ s′ n′
+meet-eq {r} {r′} {s} {s′} {n} {n′} i j k = ap₂ (λ x y. meet x y n) i j ∙ ap (meet r′ s′) k
+
+returns : tie.Need-returns
+returns c =
+    let b = c .before in
+    let a = b .before .before .before in
+    let s = a .before .before .before .before in
+    let p = s .pre in
+    let n = back-is tt (steps-within (p .0) (p .1 .edge)) in
+    let w = back-is tt (width-within (p .1)) in
+    c .meet .ensures
+    ∙ meet-eq (a .strip-of .ensures ∙ strip-of-eq (s .args .w .x) (back-is tt (p .1 .left)) w n)
+    (b .strip-of2 .ensures ∙ strip-of-eq (s .args .w .y) (back-is tt (p .1 .top)) w n) n
+
+pub span-in-spec : {M : Type 1} → statement M
+span-in-spec = tie.close (tie.spec strip-of-requires strip-of-requires-2 meet-requires returns)

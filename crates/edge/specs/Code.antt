@@ -1,0 +1,78 @@
+-- What the code works with: a walk worked out once, numbers at the four cuts, and what the functions below the public ones answer.
+--
+-- Definitions
+--   fineWalk, unitWalk, IsWalk                           the walk of an edge, as the code hands it down
+--   Decides, Shows                                       what a test's answer says
+--   SameHalf, SameQuarter                                both ends of an edge lie in one half, in one quarter
+--   beyondAt, nearAt, pieceSum, numeratorsAt             the closed form at the four cuts
+--   roundedBy                                            three numerators, rounded
+use mathlib.Core.Path.{_≡_}
+use mathlib.Core.Bool.{Bool, true, false}
+use Prim.Native.Nat.{ℕ}
+use lib.IntN.{ℤ, pos, natAbs, _+ℤ_, _-ℤ_, _*ℤ_}
+use lib.Signed.{_≤ℤ_}
+use Rattle.integers.specs.MinMax.{min}
+use Rattle.integers.specs.Rounding.{roundHalfAway}
+use Rattle.edge.specs.declared.Edge.{Edge}
+use Rattle.edge.specs.declared.Axis.{Axis}
+use Rattle.edge.specs.declared.Cell.{Cell}
+use Rattle.edge.specs.declared.Details.{Details}
+use Rattle.edge.specs.declared.Samples.{Samples}
+use Rattle.edge.specs.declared.Walk.{Walk}
+use Rattle.edge.specs.Walk.{steps, xAxis, yAxis, beyond}
+use Rattle.edge.specs.Straight.{Straight, unitX, unitY, unitSteps}
+
+-- ---- the walk
+-- in the steps of the definitions, whose sums are over `steps e`
+abbrev pub fineWalk : Edge → Walk
+fineWalk e = record { edge = e; x = xAxis e; y = yAxis e; steps = pos (steps e); divisor = pos (steps e) }
+
+-- in unit steps, whose sums are whole
+abbrev pub unitWalk : Edge → Walk
+unitWalk e = record { edge = e; x = unitX e; y = unitY e; steps = pos (unitSteps e); divisor = pos 1 }
+
+pub data IsWalk (w : Walk) : Type 0 where
+  fine : w ≡ fineWalk (w .edge) → IsWalk w
+  unit : Straight (w .edge) → w ≡ unitWalk (w .edge) → IsWalk w
+
+-- ---- tests
+-- b is the answer to the question whether P
+pub record Decides (b : Bool) (P : Type 0) : Type 0 where
+  pub yes : b ≡ true → P
+  pub no : b ≡ false → P → ⊥
+
+-- b is true only where P
+pub record Shows (b : Bool) (P : Type 0) : Type 0 where
+  pub shown : b ≡ true → P
+
+pub data SameHalf (side half p q : ℤ) : Type 0 where
+  first : side ≤ℤ p → p ≤ℤ (side +ℤ half) → side ≤ℤ q → q ≤ℤ (side +ℤ half) → SameHalf side half p q
+  second : (side +ℤ half) ≤ℤ p → p ≤ℤ (side +ℤ half +ℤ half) → (side +ℤ half) ≤ℤ q → q ≤ℤ (side +ℤ half +ℤ half) → SameHalf side half p q
+
+pub record SameQuarter (e : Edge) (c : Cell) (half : ℤ) : Type 0 where
+  pub x : SameHalf (c .left) half (e .x0) (e .x1)
+  pub y : SameHalf (c .top) half (e .y0) (e .y1)
+
+-- ---- the four cuts
+-- one direction: how far past the side
+abbrev pub beyondAt : Axis → ℤ → Samples → Samples
+beyondAt a side k = record { first = beyond a side (k .first); second = beyond a side (k .second); third = beyond a side (k .third); fourth = beyond a side (k .fourth) }
+
+-- and how far from the nearer of 0 and m, between them
+abbrev pub nearAt : ℤ → Samples → Samples
+nearAt m u = record { first = min (u .first) (m -ℤ u .first); second = min (u .second) (m -ℤ u .second); third = min (u .third) (m -ℤ u .third); fourth = min (u .fourth) (m -ℤ u .fourth) }
+
+-- three pieces
+abbrev pub pieceSum : Samples → Samples → ℤ
+pieceSum f g =
+    (f .first +ℤ f .second) *ℤ (g .second -ℤ g .first) +ℤ (f .second +ℤ f .third) *ℤ (g .third -ℤ g .second) +ℤ (f .third +ℤ f .fourth) *ℤ (g .fourth -ℤ g .third)
+
+-- the numerators of h, v and d: of x and y past the sides, and m and n wide
+abbrev pub numeratorsOf : ℤ → ℤ → Samples → Samples → Details
+numeratorsOf m n x y = record { h = pieceSum (nearAt m x) y; v = pos 0 -ℤ pieceSum (nearAt n y) x; d = pieceSum (nearAt m x) (nearAt n y) }
+
+abbrev pub numeratorsAt : Axis → Axis → Cell → Samples → Details
+numeratorsAt a b c k = numeratorsOf (a .scale *ℤ c .width) (b .scale *ℤ c .width) (beyondAt a (c .left) k) (beyondAt b (c .top) k)
+
+abbrev pub roundedBy : ℤ → Details → Details
+roundedBy n m = record { h = roundHalfAway (m .h) (natAbs n); v = roundHalfAway (m .v) (natAbs n); d = roundHalfAway (m .d) (natAbs n) }
