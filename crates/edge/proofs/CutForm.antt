@@ -4,7 +4,7 @@
 --   cut-details            the details of the edge, from the cuts of its walk
 --   cuts-in-cell           at the four cuts, which are in order, both directions are between their sides, or on them
 --   ordered-within         steps that are in order are bounded by their number
-use mathlib.Core.Path.{_≡_, refl, sym, _∙_, ap, ap₂, subst⁻¹}
+use mathlib.Core.Path.{_≡_, sym, _∙_, ap, ap₂, subst⁻¹}
 use mathlib.Core.List.{[], _∷_}
 use Prim.Native.Nat.{ℕ}
 use native.Mathlib.Omega.{arith}
@@ -27,16 +27,18 @@ use Rattle.edge.specs.declared.Walk.{Walk}
 use Rattle.edge.specs.Walk.{steps, xAxis, yAxis, beyond, past, near}
 use Rattle.edge.specs.Integrals.{along, hNum, vNum, dNum}
 use Rattle.edge.specs.Rounded.{details}
-use Rattle.edge.specs.WalkLaws.{Steady, x-steady, y-steady, steps-pos}
-use Rattle.edge.specs.StepLaws.{Closed}
-use Rattle.edge.specs.Runs.{Ordered}
-use Rattle.edge.specs.Crossings.{span}
-use Rattle.edge.specs.ClosedForm.{cuts, cuts-closed, ordered, near-past-closed, past-near-closed, near-near-closed}
-use Rattle.edge.specs.Straight.{Straight, unitX, unitY, unitSteps, unitH, unitV, unitD, h-straight, v-straight, d-straight}
-use Rattle.edge.specs.Room.{SamplesClosed, SamplesWithin}
-use Rattle.edge.specs.Code.{IsWalk, fine, unit, fineWalk, unitWalk, beyondAt, nearAt, pieceSum, numeratorsAt, roundedBy}
-use Rattle.edge.specs.WalkInside.{unit-x-steady, unit-y-steady}
-use Rattle.edge.proofs.Records.{samples-eq, details-eq}
+use Rattle.edge.specs.Lemmas.Ends.{rounded-whole, Steady, x-steady, y-steady}
+use Rattle.edge.specs.Code.{Closed}
+use Rattle.edge.specs.Lemmas.Runs.{Ordered}
+use Rattle.edge.specs.Cuts.{span}
+use Rattle.edge.specs.Cuts.{cuts}
+use Rattle.edge.specs.Laws.ClosedForm.{cuts-closed, ordered, near-past-closed, past-near-closed, near-near-closed}
+use Rattle.edge.specs.Straight.{Straight, unitX, unitY, unitSteps}
+use Rattle.edge.specs.Laws.StraightEdges.{h-straight, v-straight, d-straight}
+use Rattle.edge.specs.Room.{SamplesWithin}
+use Rattle.edge.specs.Code.{SamplesClosed, IsWalk, fine, unit, fineWalk, unitWalk, beyondAt, nearAt, pieceSum, numeratorsAt, roundedBy}
+use Rattle.edge.specs.Laws.WalkInside.{unit-x-steady, unit-y-steady}
+use Rattle.edge.specs.Lemmas.Records.{samples-eq, details-eq}
 
 -- ---- samples of the definitions
 abbrev samplesOf : (ℤ → ℤ) → Samples → Samples
@@ -126,7 +128,7 @@ module _ (e : Edge) (c : Cell) (half : ℤ) (even : c .width ≡ half +ℤ half)
       (by (d-at (unitX e) (unitY e) (unit-x-steady e) (unit-y-steady e) c half even hh (unitSteps e) inside) (d-straight s c even hh))
     where
       by : {x q m : ℤ} → x ≡ q → m ≡ q *ℤ pos (steps e) → roundHalfAway x 1 ≡ roundHalfAway m (steps e)
-      by {x} {q} p r = whole x ∙ p ∙ sym (ap (λ z. roundHalfAway z (steps e)) r ∙ roundHalfAway-mul q (steps-pos e))
+      by {x} {q} p r = whole x ∙ p ∙ sym (rounded-whole e q r)
 
 pub cut-details : {w : Walk} → IsWalk w → (c : Cell) (half : ℤ) → c .width ≡ half +ℤ half → pos 0 ≤ℤ half
     → span (w .x) (w .y) c (w .steps) .first <ℤ span (w .x) (w .y) c (w .steps) .last

@@ -1,7 +1,6 @@
 -- What the machine holds, by the number that it is and a bound of it: sums, differences and products of such are such again, and fit.
 --
 -- Main results
---   back                                            a number as it is read back from its bits
 --   Held                                            z is v, which lies within b
 --   held-add, held-sub, held-neg, held-mul          what an operation gives
 --   held-fits, held-back                            it fits where b does, and is the same when read back
@@ -12,14 +11,11 @@ use Prim.Native.Nat.{ℕ, _+_, _*_}
 use lib.Dec.{T, leb}
 use lib.IntN.{ℤ, pos, negℤ, _+ℤ_, _-ℤ_, _*ℤ_}
 use mir.Syntax.{w64}
-use mir.Val.{SFits, toZ, ofZ}
+use mir.Val.{SFits}
 use Rattle.integers.specs.Ring.{read, ring}
 use Rattle.integers.specs.Within.{Within, within-add, within-sub, within-neg, within-mul}
 use Rattle.integers.specs.Machine.{known}
-use Rattle.edge.proofs.Bits.{fits-within}
-
-abbrev pub back : ℤ → ℤ
-back z = toZ w64 (ofZ w64 z)
+use Rattle.edge.proofs.Bits.{back, fits-within}
 
 pub record Held (b : ℕ) (z v : ℤ) : Type 0 where
   pub is : z ≡ v

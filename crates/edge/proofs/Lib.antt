@@ -1,11 +1,15 @@
 -- What the functions' proofs share.
+
+-- numbers and their bits; numbers with their bounds, through the operations
 pub mod Bits
-pub mod Records
-pub mod Signs
-pub mod ToSide
-pub mod Axes
-pub mod PieceBounds
-pub mod WalkRoom
-pub mod CutForm
 pub mod Held
+-- definitions by the sign, as the code tests it
+pub mod Signs
+-- what `Room` says of coordinates, extents, widths, of each direction of a walk, and of what is formed from them
 pub mod Sizes
+pub mod AxisNumbers
+pub mod WalkRoom
+pub mod PieceBounds
+-- an edge in one quarter; the closed form at the four cuts
+pub mod InQuarter
+pub mod CutForm

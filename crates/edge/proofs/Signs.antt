@@ -17,7 +17,7 @@ use Rattle.integers.specs.Order.{nonneg, ≤ℤ-antisym, ltZ-true, ltZ-false}
 use Rattle.integers.specs.Linear.{le, lt, _&_, linear, lin⊥}
 use Rattle.edge.specs.declared.Span.{Span}
 use Rattle.edge.specs.Walk.{extent, sign}
-use Rattle.edge.specs.Crossings.{strip}
+use Rattle.edge.specs.Cuts.{strip}
 
 pub sign-positive : (d : ℤ) → pos 0 <ℤ d → sign d ≡ pos 1
 unfolding sign

@@ -3,7 +3,8 @@
 -- Main results
 --   coordinate, difference        a coordinate, and a difference of two, as the machine has them
 --   extent-within                 the extent of a difference
---   width-within, half-high       what `Room` says of a cell's width and of half of it
+--   width≥0, width-within         what `Room` says of a cell's width
+--   half-high                     and of half of it
 use mathlib.Core.Path.{_≡_}
 use mathlib.Core.List.{[], _∷_}
 use Prim.Native.Nat.{zero, suc}
@@ -16,10 +17,10 @@ use Rattle.integers.specs.Within.{Within, within-neg}
 use Rattle.edge.specs.declared.Edge.{Edge}
 use Rattle.edge.specs.declared.Cell.{Cell}
 use Rattle.edge.specs.Walk.{extent, dx, ax}
-use Rattle.edge.specs.WalkLaws.{extent-pos}
+use Rattle.edge.specs.Lemmas.Ends.{extent-pos}
 use Rattle.edge.specs.Room.{coordinateLimit, extentLimit, Room}
-use Rattle.edge.proofs.Bits.{back-is}
-use Rattle.edge.proofs.Held.{back, Held, held-sub}
+use Rattle.edge.proofs.Bits.{back, back-is}
+use Rattle.edge.proofs.Held.{Held, held-sub}
 
 pub coordinate : {x : ℤ} → Within (pos coordinateLimit) x → Held coordinateLimit (back x) x
 coordinate p = record { is = back-is tt p; within = p }
@@ -34,17 +35,17 @@ extent-within (pos (suc n)) w = w
 extent-within (negsuc n) w = within-neg w
 
 -- ---- a cell
-module _ {e : Edge} {c : Cell} (r : Room e c) {half : ℤ} (m : c .width ≡ half +ℤ half) (h : pos 0 ≤ℤ half) where
-  width-low : pos 0 ≤ℤ c .width
-  width-low = lin≤ (c .width ∷ half ∷ []) (eq m & le h) (search linear depth 40) tt
+module _ {e : Edge} {c : Cell} (r : Room e c) where
+  pub width≥0 : pos 0 ≤ℤ c .width
+  width≥0 = let h = r .even in lin≤ (c .width ∷ h .half ∷ []) (le (h .half≥0) & eq (h .twice)) (search linear depth 40) tt
 
-  -- the extent is at least 1
-  width-high : c .width ≤ℤ pos widthTimesExtentLimit
+  -- an extent is at least 1
+  pub width-high : c .width ≤ℤ pos widthTimesExtentLimit
   width-high =
-      lin≤ (c .width ∷ pos (ax e) ∷ []) (le (r .wide) & le (≤ℤ-mul (add-one-≤ℤ (positive (extent-pos (dx e)))) width-low)) (search linear depth 40) tt
+      lin≤ (c .width ∷ pos (ax e) ∷ []) (le (r .wide) & le (≤ℤ-mul (add-one-≤ℤ (positive (extent-pos (dx e)))) width≥0)) (search linear depth 40) tt
 
   pub width-within : Within (pos widthTimesExtentLimit) (c .width)
-  width-within = record { low = lin≤ (c .width ∷ []) (le width-low) (search linear depth 40) tt; high = width-high }
+  width-within = record { low = lin≤ (c .width ∷ []) (le width≥0) (search linear depth 40) tt; high = width-high }
 
-  pub half-high : half ≤ℤ pos coordinateLimit
-  half-high = lin≤ (c .width ∷ half ∷ []) (eq m & le h & le width-high) (search linear depth 40) tt
+  pub half-high : {half : ℤ} → c .width ≡ half +ℤ half → pos 0 ≤ℤ half → half ≤ℤ pos coordinateLimit
+  half-high {half} m h = lin≤ (c .width ∷ half ∷ []) (eq m & le h & le width-high) (search linear depth 40) tt

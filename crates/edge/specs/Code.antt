@@ -4,11 +4,11 @@
 --   fineWalk, unitWalk, IsWalk                           the walk of an edge, as the code hands it down
 --   Decides, Shows                                       what a test's answer says
 --   SameHalf, SameQuarter                                both ends of an edge lie in one half, in one quarter
+--   Closed, SamplesClosed                                a direction is between its sides, or on them
 --   beyondAt, nearAt, pieceSum, numeratorsAt             the closed form at the four cuts
 --   roundedBy                                            three numerators, rounded
 use mathlib.Core.Path.{_≡_}
 use mathlib.Core.Bool.{Bool, true, false}
-use Prim.Native.Nat.{ℕ}
 use lib.IntN.{ℤ, pos, natAbs, _+ℤ_, _-ℤ_, _*ℤ_}
 use lib.Signed.{_≤ℤ_}
 use Rattle.integers.specs.MinMax.{min}
@@ -54,6 +54,17 @@ pub record SameQuarter (e : Edge) (c : Cell) (half : ℤ) : Type 0 where
   pub y : SameHalf (c .top) half (e .y0) (e .y1)
 
 -- ---- the four cuts
+-- after t steps the direction is between its sides, or on them
+pub record Closed (a : Axis) (side w t : ℤ) : Type 0 where
+  pub low : pos 0 ≤ℤ beyond a side t
+  pub high : beyond a side t ≤ℤ (a .scale *ℤ w)
+
+pub record SamplesClosed (a : Axis) (side w : ℤ) (k : Samples) : Type 0 where
+  pub first : Closed a side w (k .first)
+  pub second : Closed a side w (k .second)
+  pub third : Closed a side w (k .third)
+  pub fourth : Closed a side w (k .fourth)
+
 -- one direction: how far past the side
 abbrev pub beyondAt : Axis → ℤ → Samples → Samples
 beyondAt a side k = record { first = beyond a side (k .first); second = beyond a side (k .second); third = beyond a side (k .third); fourth = beyond a side (k .fourth) }

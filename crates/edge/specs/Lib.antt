@@ -1,4 +1,4 @@
--- The exact integrals of an edge in a cell. The first four files say what is computed; the others are laws about it. Read in this order.
+-- The exact integrals of an edge in a cell. Read in this order.
 
 -- ---- what is computed
 -- the walk along an edge
@@ -9,25 +9,16 @@ pub mod Integrals
 pub mod Inside
 -- the rounded details, and the root term
 pub mod Rounded
--- ---- laws
--- signs, a step, both ends
-pub mod WalkLaws
-pub mod StepLaws
-pub mod Runs
-pub mod ZeroLaw
-pub mod Crossings
-pub mod OneDirection
-pub mod ClosedForm
-pub mod Refinement
-pub mod InsideRefinement
+-- level, upright and 45-degree edges
 pub mod Straight
-pub mod Quarter
-pub mod WholeTile
-pub mod SumBounds
-pub mod Bounds
-pub mod Reversal
--- ---- what the code asks and works out
+-- ---- what the code's contracts cite besides
+-- the ranges that keep the arithmetic in 64 bits
 pub mod Room
+-- the steps inside a cell
+pub mod Cuts
+-- the walk that is handed down, and the closed form at its cuts
 pub mod Code
-pub mod InQuarter
-pub mod WalkInside
+-- ---- what is proved of it
+pub mod Laws
+-- and on the way
+pub mod Lemmas

@@ -5,6 +5,7 @@
 --   Measured                                          an edge within these limits
 --   Even                                              a width that has a half
 --   Room                                              an edge and a cell
+--   AxisRoom, SamplesWithin                           one direction of a walk; numbers at the four cuts
 use mathlib.Core.Path.{_≡_}
 use Prim.Native.Nat.{ℕ, _*_, _^_}
 use lib.IntN.{ℤ, pos, _+ℤ_, _*ℤ_}
@@ -15,10 +16,7 @@ use Rattle.edge.specs.declared.Edge.{Edge}
 use Rattle.edge.specs.declared.Cell.{Cell}
 use Rattle.edge.specs.declared.Axis.{Axis}
 use Rattle.edge.specs.declared.Samples.{Samples}
-use Rattle.edge.specs.declared.Details.{Details}
 use Rattle.edge.specs.Walk.{ax, ay}
-use Rattle.edge.specs.WalkLaws.{Steady}
-use Rattle.edge.specs.StepLaws.{Closed}
 
 -- An extent is at most twice a coordinate, and a crossing is found by the product of an extent and a difference of coordinates. With coordinates up to
 -- 2^28 that product is at most 2^58, and the few sums of such products that the code forms stay below 2^63. 01's coordinates are at most 2^14.
@@ -55,8 +53,9 @@ pub record Room (e : Edge) (c : Cell) : Type 0 where
 
 -- ---- the same for one direction of a walk, and for numbers at the four cuts
 pub record AxisRoom (a : Axis) (side w : ℤ) : Type 0 where
-  pub steady : Steady a
+  pub scaled : pos 0 ≤ℤ a .scale
   pub scale : a .scale ≤ℤ pos extentLimit
+  pub signed : Within (pos 1) (a .sign)
   pub start : Within (pos coordinateLimit) (a .start)
   pub line : Within (pos coordinateLimit) side
   pub width : pos 0 ≤ℤ w
@@ -67,15 +66,3 @@ pub record SamplesWithin (b : ℤ) (s : Samples) : Type 0 where
   pub second : Within b (s .second)
   pub third : Within b (s .third)
   pub fourth : Within b (s .fourth)
-
-pub record DetailsWithin (b : ℤ) (m : Details) : Type 0 where
-  pub h : Within b (m .h)
-  pub v : Within b (m .v)
-  pub d : Within b (m .d)
-
--- at the four cuts the direction is between its sides, or on them
-pub record SamplesClosed (a : Axis) (side w : ℤ) (k : Samples) : Type 0 where
-  pub first : Closed a side w (k .first)
-  pub second : Closed a side w (k .second)
-  pub third : Closed a side w (k .third)
-  pub fourth : Closed a side w (k .fourth)

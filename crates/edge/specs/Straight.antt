@@ -1,35 +1,14 @@
--- An edge that is level, upright or at 45 degrees has whole values in a cell of even width, and so rounding keeps them.
+-- Edges that are level, upright or at 45 degrees. Walked in unit steps, x and y are whole numbers after each, so their values need no division.
 --
--- Such an edge is walked in max(|dx|, |dy|) unit steps, after each of which x and y are whole numbers. Its walk in |dx| × |dy| steps is the unit walk
--- in a finer scale: |dy| times as fine in x, and |dx| times in y.
---
--- Main results
---   Straight, rising, falling                                level, upright, or at 45 degrees: dx = dy, or dx = −dy
---   unitX, unitY, unitSteps                                  the unit walk
---   unitArea, unitH, unitV, unitD                            the four sums along it
---   area-straight, h-straight, v-straight, d-straight        a straight edge's numerators are these times its steps
---   Exact, straight-exact                                    so rounding keeps its three details
---   straight-inside, straight-inside-unit                    it lies strictly inside a cell exactly where its unit walk does
-use mathlib.Core.Path.{_≡_, refl, sym, _∙_, ap, subst, subst₂}
-use mathlib.Core.List.{[], _∷_}
-use Prim.Native.Nat.{ℕ, zero, suc, _*_, _<_, max}
-use native.Mathlib.Nat.{mul-one, max-eq-left, le-refl}
-use native.Mathlib.Omega.{arith}
-use lib.IntN.{ℤ, pos, negsuc, negℤ, _+ℤ_, _*ℤ_}
-use lib.Signed.{_≤ℤ_}
-use Rattle.integers.specs.Ring.{read, ring}
-use Rattle.integers.specs.Order.{nonneg}
-use Rattle.integers.specs.Rounding.{roundHalfAway}
-use Rattle.integers.specs.RoundHalfAway.{roundHalfAway-mul}
+-- Definitions
+--   Straight                         level, upright, or at 45 degrees
+--   unitX, unitY, unitSteps          the walk in unit steps
+use mathlib.Core.Path.{_≡_}
+use Prim.Native.Nat.{ℕ, max}
+use lib.IntN.{pos}
 use Rattle.edge.specs.declared.Edge.{Edge}
-use Rattle.edge.specs.declared.Cell.{Cell}
 use Rattle.edge.specs.declared.Axis.{Axis}
-use Rattle.edge.specs.Walk.{extent, sign, dx, dy, ax, ay, steps, xAxis, yAxis, past, near}
-use Rattle.edge.specs.WalkLaws.{extent-pos, steps-pos, direction, direction-within}
-use Rattle.edge.specs.Integrals.{along, areaNum, hNum, vNum, dNum}
-use Rattle.edge.specs.Inside.{SomeStepInside, Inside}
-use Rattle.edge.specs.Refinement.{finer, over, Pace, moving, standing, Cut, Piecewise, clamp-piecewise, tent-piecewise, even-nonneg, along-finer}
-use Rattle.edge.specs.InsideRefinement.{inside-finer, inside-coarser}
+use Rattle.edge.specs.Walk.{sign, dx, dy, ax, ay}
 
 -- "every edge is level, upright or at 45 degrees": of one at 45 degrees both extents are the same
 pub data Straight (e : Edge) : Type 0 where
@@ -37,19 +16,6 @@ pub data Straight (e : Edge) : Type 0 where
   upright : dx e ≡ pos 0 → Straight e
   diagonal : ax e ≡ ay e → Straight e
 
-pub rising : {e : Edge} → dx e ≡ dy e → Straight e
-rising h = diagonal (ap extent h)
-
-extent-neg : (d : ℤ) → extent (negℤ d) ≡ extent d
-unfolding extent
-extent-neg (pos zero) = refl
-extent-neg (pos (suc n)) = refl
-extent-neg (negsuc n) = refl
-
-pub falling : {e : Edge} → dx e ≡ negℤ (dy e) → Straight e
-falling {e} h = diagonal (ap extent h ∙ extent-neg (dy e))
-
--- ---- the unit walk
 abbrev pub unitX : Edge → Axis
 unitX e = record { scale = pos 1; start = e .x0; sign = sign (dx e) }
 
@@ -58,129 +24,3 @@ unitY e = record { scale = pos 1; start = e .y0; sign = sign (dy e) }
 
 abbrev pub unitSteps : Edge → ℕ
 unitSteps e = max (ax e) (ay e)
-
--- the sums of `areaNum`, `hNum`, `vNum` and `dNum` along it
-abbrev pub unitArea : Edge → Cell → ℤ
-unitArea e c = along (past (unitX e) (c .left) (c .width)) (past (unitY e) (c .top) (c .width)) (unitSteps e)
-
-abbrev pub unitH : Edge → Cell → ℤ
-unitH e c = along (near (unitX e) (c .left) (c .width)) (past (unitY e) (c .top) (c .width)) (unitSteps e)
-
-abbrev pub unitV : Edge → Cell → ℤ
-unitV e c = negℤ (along (near (unitY e) (c .top) (c .width)) (past (unitX e) (c .left) (c .width)) (unitSteps e))
-
-abbrev pub unitD : Edge → Cell → ℤ
-unitD e c = along (near (unitX e) (c .left) (c .width)) (near (unitY e) (c .top) (c .width)) (unitSteps e)
-
--- the edge's walk takes `each` steps for one unit step
-record Cuts (e : Edge) : Type 0 where
-  each : ℕ
-  some : 0 < each
-  all : unitSteps e * each ≡ steps e
-  x : Cut each (ay e) (unitX e)
-  y : Cut each (ax e) (unitY e)
-
-extent-zero : {d : ℤ} → d ≡ pos 0 → extent d ≡ 1
-unfolding extent
-extent-zero h = ap extent h
-
-sign-zero : {d : ℤ} → d ≡ pos 0 → sign d ≡ pos 0
-unfolding sign
-sign-zero h = ap sign h
-
-unit-cut : {r k : ℕ} {start : ℤ} (d : ℤ) → Pace r k (sign d) → Cut r k (record { scale = pos 1; start = start; sign = sign d })
-unit-cut d p = record { size = nonneg 1; unit = direction-within (direction d); pace = p }
-
-cuts : {e : Edge} → Straight e → Cuts e
-cuts {e} (level h) =
-    let one = extent-zero h in
-    record {
-      each = 1;
-      some = omega arith;
-      all = omega (arith, one, extent-pos (dx e), ap (λ n. ax e * n) one);
-      x = unit-cut (dx e) (moving one);
-      y = unit-cut (dy e) (standing (sign-zero h));
-    }
-cuts {e} (upright h) =
-    let one = extent-zero h in
-    record {
-      each = 1;
-      some = omega arith;
-      all = omega (arith, one, extent-pos (dy e), ap (λ n. n * ay e) one);
-      x = unit-cut (dx e) (standing (sign-zero h));
-      y = unit-cut (dy e) (moving one);
-    }
-cuts {e} (diagonal h) = record {
-  each = ax e;
-  some = extent-pos (dx e);
-  all = subst (λ n. max (ax e) n * ax e ≡ ax e * n) h (ap (λ n. n * ax e) (max-eq-left (le-refl (ax e))));
-  x = unit-cut (dx e) (moving (sym h));
-  y = unit-cut (dy e) (moving refl);
-}
-
--- what holds of the unit walk in its finer scale holds of the edge's walk
-of-edge : {e : Edge} (P : Axis → Axis → ℕ → Type 0) (c : Cuts e)
-    → P (finer (ay e) (unitX e)) (finer (ax e) (unitY e)) (unitSteps e * c .each) → P (xAxis e) (yAxis e) (steps e)
-of-edge {e} P c h =
-    subst (P (xAxis e) (yAxis e)) (c .all)
-    (subst₂ (λ k l. P (record { scale = pos k; start = e .x0; sign = sign (dx e) }) (record { scale = pos l; start = e .y0; sign = sign (dy e) }) (unitSteps e * c .each))
-    (mul-one (ay e)) (mul-one (ax e)) h)
-
--- ---- whole values
-module _ {e : Edge} (s : Straight e) (c : Cell) where
-  whole : {φ ψ : ℤ → ℤ → ℤ} → Piecewise (c .width) φ → Piecewise (c .width) ψ
-      → along (over φ (xAxis e) (c .left) (c .width)) (over ψ (yAxis e) (c .top) (c .width)) (steps e)
-      ≡ along (over φ (unitX e) (c .left) (c .width)) (over ψ (unitY e) (c .top) (c .width)) (unitSteps e) *ℤ pos (steps e)
-  whole {φ} {ψ} p q =
-      let W = along (over φ (unitX e) (c .left) (c .width)) (over ψ (unitY e) (c .top) (c .width)) (unitSteps e) in
-      of-edge (λ a b n. along (over φ a (c .left) (c .width)) (over ψ b (c .top) (c .width)) n ≡ W *ℤ pos (steps e)) (cuts s)
-      (along-finer p q (cuts s .x) (cuts s .y) (c .left) (c .top) (unitSteps e) ∙ ring (W ∷ pos (ax e) ∷ pos (ay e) ∷ []) (search read depth 40) tt)
-
-  pub area-straight : pos 0 ≤ℤ c .width → areaNum e c ≡ unitArea e c *ℤ pos (steps e)
-  unfolding areaNum
-  area-straight h = whole (clamp-piecewise h) (clamp-piecewise h)
-
-  -- where the middle of the cell is a whole number
-  module _ {half : ℤ} (w : c .width ≡ half +ℤ half) (k : pos 0 ≤ℤ half) where
-    pub h-straight : hNum e c ≡ unitH e c *ℤ pos (steps e)
-    unfolding hNum
-    h-straight = whole (tent-piecewise w k) (clamp-piecewise (even-nonneg w k))
-
-    pub d-straight : dNum e c ≡ unitD e c *ℤ pos (steps e)
-    unfolding dNum
-    d-straight = whole (tent-piecewise w k) (tent-piecewise w k)
-
-    pub v-straight : vNum e c ≡ unitV e c *ℤ pos (steps e)
-    unfolding vNum
-    v-straight =
-        of-edge (λ a b n. negℤ (along (near b (c .top) (c .width)) (past a (c .left) (c .width)) n) ≡ unitV e c *ℤ pos (steps e)) (cuts s)
-        (ap negℤ (along-finer (tent-piecewise w k) (clamp-piecewise (even-nonneg w k)) (cuts s .y) (cuts s .x) (c .top) (c .left) (unitSteps e))
-        ∙ ring (along (near (unitY e) (c .top) (c .width)) (past (unitX e) (c .left) (c .width)) (unitSteps e) ∷ pos (ax e) ∷ pos (ay e) ∷ []) (search read depth 40) tt)
-
--- ---- rounding
-pub record Exact (e : Edge) (c : Cell) : Type 0 where
-  pub h : roundHalfAway (hNum e c) (steps e) *ℤ pos (steps e) ≡ hNum e c
-  pub v : roundHalfAway (vNum e c) (steps e) *ℤ pos (steps e) ≡ vNum e c
-  pub d : roundHalfAway (dNum e c) (steps e) *ℤ pos (steps e) ≡ dNum e c
-
-kept : {z : ℤ} (W : ℤ) {n : ℕ} → 0 < n → z ≡ W *ℤ pos n → roundHalfAway z n *ℤ pos n ≡ z
-kept W {n} g h = ap (λ z. roundHalfAway z n *ℤ pos n) h ∙ ap (λ q. q *ℤ pos n) (roundHalfAway-mul W g) ∙ sym h
-
-pub straight-exact : {e : Edge} → Straight e → (c : Cell) {half : ℤ} → c .width ≡ half +ℤ half → pos 0 ≤ℤ half → Exact e c
-straight-exact {e} s c w k = record {
-  h = kept (unitH e c) (steps-pos e) (h-straight s c w k);
-  v = kept (unitV e c) (steps-pos e) (v-straight s c w k);
-  d = kept (unitD e c) (steps-pos e) (d-straight s c w k);
-}
-
--- ---- strictly inside
-module _ {e : Edge} (s : Straight e) (c : Cell) where
-  pub straight-inside : SomeStepInside (unitX e) (unitY e) c (unitSteps e) → Inside e c
-  straight-inside h =
-      let p = cuts s in of-edge (λ a b n. SomeStepInside a b c n) p (inside-finer (p .x) (p .y) (p .some) (extent-pos (dy e)) (extent-pos (dx e)) h)
-
-  pub straight-inside-unit : Inside e c → SomeStepInside (unitX e) (unitY e) c (unitSteps e)
-  straight-inside-unit =
-      let p = cuts s in
-      of-edge (λ a b n. SomeStepInside a b c n → SomeStepInside (unitX e) (unitY e) c (unitSteps e)) p
-      (inside-coarser (p .x) (p .y) (p .some) (extent-pos (dy e)) (extent-pos (dx e)))

@@ -1,19 +1,18 @@
 ghost use mathlib.Core.Path.{_≡_};
-ghost use mathlib.Core.Bool.{true};
 ghost use lib.IntN.{pos, _+ℤ_, _-ℤ_, _*ℤ_};
 ghost use lib.Signed.{_≤ℤ_, _<ℤ_};
-ghost use Rattle.integers.specs.Units.{widthTimesExtentLimit, numeratorLimit};
+ghost use Rattle.integers.specs.Units.{widthTimesExtentLimit};
 ghost use Rattle.integers.specs.Within.{Within};
 ghost use Rattle.integers.specs.MinMax.{min, max};
 ghost use Rattle.integers.specs.Clamp.{clamp};
-ghost use Rattle.edge.specs.Walk.{extent as extentOf, sign as signOf, dx, dy, ax as axOf, ay as ayOf, beyond as beyondOf};
+ghost use Rattle.edge.specs.Walk.{extent as extentOf, sign as signOf, dx, dy, ax as axOf, ay as ayOf};
 ghost use Rattle.edge.specs.Inside.{Inside};
 ghost use Rattle.edge.specs.Rounded.{details as detailsOf};
-ghost use Rattle.edge.specs.Crossings.{strip as stripSteps, stripOf, meet as meetOf, span as spanOf};
-ghost use Rattle.edge.specs.OneDirection.{toMiddle};
-ghost use Rattle.edge.specs.ClosedForm.{cutsAt};
-ghost use Rattle.edge.specs.Room.{coordinateLimit, extentLimit, crossingLimit, Measured, Even, Room, AxisRoom, SamplesWithin, SamplesClosed, DetailsWithin};
-ghost use Rattle.edge.specs.Code.{IsWalk, Decides, Shows, SameHalf, SameQuarter, beyondAt, nearAt, pieceSum, numeratorsAt, roundedBy};
+ghost use Rattle.edge.specs.Cuts.{strip as stripSteps, stripOf, meet as meetOf, span as spanOf};
+ghost use Rattle.edge.specs.Cuts.{toMiddle};
+ghost use Rattle.edge.specs.Cuts.{cutsAt};
+ghost use Rattle.edge.specs.Room.{coordinateLimit, extentLimit, crossingLimit, Measured, Even, Room, AxisRoom, SamplesWithin};
+ghost use Rattle.edge.specs.Code.{IsWalk, Decides, Shows, SameHalf, SameQuarter, SamplesClosed, beyondAt, nearAt, pieceSum, numeratorsAt, roundedBy};
 use integers::div_round_half_away;
 
 pub struct Edge {

@@ -1,40 +1,35 @@
 -- How far past a side a direction is, at the four cuts.
 use mathlib.Core.Path.{_≡_, _∙_, ap₂, subst⁻¹}
-use Prim.Native.Nat.{ℕ}
-use lib.Dec.{T, leb}
 use lib.IntN.{ℤ, pos, _+ℤ_, _-ℤ_, _*ℤ_}
 use lib.Signed.{_≤ℤ_}
-use mir.Facts.{toZ-ofZ}
 use Rattle.integers.specs.Within.{Within}
 use Rattle.edge.specs.declared.Axis.{Axis}
 use Rattle.edge.specs.Walk.{beyond}
-use Rattle.edge.specs.WalkLaws.{steady-within}
 use Rattle.edge.specs.Room.{coordinateLimit, extentLimit, crossingLimit, AxisRoom}
 use Rattle.edge.proofs.Bits.{back, fits-within, back-is, within-back, result-is}
-use Rattle.edge.proofs.Records.{samples-eq}
-use Rattle.edge.proofs.Axes.{scale-fits}
+use Rattle.edge.specs.Lemmas.Records.{samples-eq}
+use Rattle.edge.proofs.Held.{held-within}
+use Rattle.edge.proofs.Sizes.{coordinate}
+use Rattle.edge.proofs.AxisNumbers.{scale-held, sign-held}
 use Rattle.edge.proofs.beyond_at.Statement.{statement}
 use Rattle.edge.proofs.beyond_at.Tie as tie
-
-bounded-back : {b : ℕ} {z : ℤ} → T (leb b 9223372036854775807) → Within (pos b) z → Within (pos b) (back z)
-bounded-back t w = within-back (fits-within t w) w
 
 -- ---- one cut, its numbers read back
 module _ {a : Axis} {side w t : ℤ} (r : AxisRoom a side w) (k : Within (pos crossingLimit) t) where
   asked : (pos 0 ≤ℤ back (a .scale)) × (back (a .scale) ≤ℤ pos extentLimit) × Within (pos coordinateLimit) (back (a .start)) × Within (pos 1) (back (a .sign))
       × Within (pos coordinateLimit) (back side) × Within (pos crossingLimit) (back t)
   asked = (
-    subst⁻¹ (λ z. pos 0 ≤ℤ z) (toZ-ofZ (scale-fits r)) (r .steady .scaled),
-    subst⁻¹ (λ z. z ≤ℤ pos extentLimit) (toZ-ofZ (scale-fits r)) (r .scale),
-    bounded-back tt (r .start),
-    bounded-back tt (steady-within (r .steady)),
-    bounded-back tt (r .line),
-    bounded-back tt k,
+    subst⁻¹ (λ z. pos 0 ≤ℤ z) (scale-held r .is) (r .scaled),
+    subst⁻¹ (λ z. z ≤ℤ pos extentLimit) (scale-held r .is) (r .scale),
+    held-within (coordinate (r .start)),
+    held-within (sign-held r),
+    held-within (coordinate (r .line)),
+    within-back (fits-within tt k) k,
   )
 
   is-beyond : {u : ℤ} → u ≡ back (a .scale) *ℤ (back (a .start) -ℤ back side) +ℤ back (a .sign) *ℤ back t → u ≡ beyond a side t
   is-beyond e =
-      e ∙ ap₂ _+ℤ_ (ap₂ _*ℤ_ (toZ-ofZ (scale-fits r)) (ap₂ _-ℤ_ (back-is tt (r .start)) (back-is tt (r .line)))) (ap₂ _*ℤ_ (back-is tt (steady-within (r .steady))) (back-is tt k))
+      e ∙ ap₂ _+ℤ_ (ap₂ _*ℤ_ (scale-held r .is) (ap₂ _-ℤ_ (back-is tt (r .start)) (back-is tt (r .line)))) (ap₂ _*ℤ_ (sign-held r .is) (back-is tt k))
 
 beyond-requires : tie.Need-beyond-requires
 beyond-requires c κs =

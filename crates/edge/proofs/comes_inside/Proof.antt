@@ -1,12 +1,11 @@
 -- Some step is strictly inside just where the first is before the last.
-use mathlib.Core.Path.{_≡_, _∙_, ap, ap₂, subst⁻¹}
-use lib.IntN.{ℤ}
+use mathlib.Core.Path.{_∙_, ap, ap₂, subst⁻¹}
 use lib.Signed.{ltZ}
 use borrow.Author.Needs.{needs}
 use Rattle.edge.specs.declared.Span.{Span}
 use Rattle.edge.specs.Inside.{Inside}
 use Rattle.edge.specs.Code.{Decides}
-use Rattle.edge.specs.WalkInside.{span-decides}
+use Rattle.edge.specs.Laws.WalkInside.{span-decides}
 use Rattle.edge.proofs.Bits.{field-is}
 use Rattle.edge.proofs.comes_inside.Statement.{statement}
 use Rattle.edge.proofs.comes_inside.Tie as tie

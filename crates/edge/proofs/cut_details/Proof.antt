@@ -1,18 +1,15 @@
 -- The details of a walk that comes strictly inside a cell, by its cuts.
-use mathlib.Core.Path.{_≡_, sym, _∙_, ap, ap₂, subst, subst⁻¹}
-use lib.IntN.{ℤ, pos, natAbs}
+use mathlib.Core.Path.{_≡_, _∙_, ap, ap₂, subst, subst⁻¹}
+use lib.IntN.{ℤ, pos}
 use lib.Signed.{_<ℤ_}
 use mir.Facts.{toZ-ofZ}
 use borrow.Author.Needs.{needs}
-use Rattle.edge.specs.declared.Axis.{Axis}
-use Rattle.edge.specs.declared.Details.{Details}
-use Rattle.edge.specs.declared.Samples.{Samples}
 use Rattle.edge.specs.declared.Span.{Span}
-use Rattle.edge.specs.Crossings.{span}
-use Rattle.edge.specs.OneDirection.{toMiddle}
-use Rattle.edge.specs.ClosedForm.{cuts, cutsAt}
-use Rattle.edge.specs.Room.{crossingLimit, SamplesClosed, SamplesWithin}
-use Rattle.edge.specs.Code.{numeratorsAt, roundedBy}
+use Rattle.edge.specs.Cuts.{span}
+use Rattle.edge.specs.Cuts.{toMiddle}
+use Rattle.edge.specs.Cuts.{cuts, cutsAt}
+use Rattle.edge.specs.Room.{crossingLimit, SamplesWithin}
+use Rattle.edge.specs.Code.{SamplesClosed, numeratorsAt, roundedBy}
 use Rattle.edge.proofs.Bits.{back-is, fits-within, result-is}
 use Rattle.edge.proofs.WalkRoom.{x-room, y-room, back-room, half-room, steps-within, divisor-pos, divisor-within}
 use Rattle.edge.proofs.CutForm.{InCell, cut-details, cuts-in-cell, ordered-within}

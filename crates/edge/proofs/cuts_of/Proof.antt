@@ -6,7 +6,7 @@ use borrow.Author.Needs.{needs}
 use Rattle.integers.specs.MinMax.{min, max}
 use Rattle.integers.specs.Clamp.{clamp}
 use Rattle.edge.proofs.Bits.{result-is, field-is}
-use Rattle.edge.proofs.Records.{samples-eq}
+use Rattle.edge.specs.Lemmas.Records.{samples-eq}
 use Rattle.edge.proofs.cuts_of.Statement.{statement}
 use Rattle.edge.proofs.cuts_of.Tie as tie
 

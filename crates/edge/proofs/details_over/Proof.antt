@@ -1,5 +1,5 @@
 -- Nothing where no step is inside; the ends' distances where the edge is in one quarter; the cuts otherwise.
-use mathlib.Core.Path.{_≡_, sym, _∙_, ap, ap₂, subst, subst⁻¹}
+use mathlib.Core.Path.{_≡_, sym, _∙_, ap, subst, subst⁻¹}
 use mathlib.Core.List.{[], _∷_}
 use lib.IntN.{ℤ, pos, _+ℤ_}
 use lib.Signed.{_≤ℤ_, _<ℤ_}
@@ -11,11 +11,10 @@ use Rattle.integers.specs.Linear.{le, lt, _&_, linear, lin⊥}
 use Rattle.integers.specs.Machine.{tests}
 use Rattle.edge.specs.declared.Span.{Span}
 use Rattle.edge.specs.Room.{Even}
-use Rattle.edge.specs.Code.{SameQuarter}
-use Rattle.edge.specs.ZeroLaw.{details-zero}
-use Rattle.edge.specs.WalkInside.{span-of-inside}
-use Rattle.edge.proofs.Bits.{back, back-is, result-is}
-use Rattle.edge.proofs.WalkRoom.{width-within, width≥0}
+use Rattle.edge.specs.Laws.Zero.{details-zero}
+use Rattle.edge.specs.Laws.WalkInside.{span-of-inside}
+use Rattle.edge.proofs.Bits.{back, back-is}
+use Rattle.edge.proofs.Sizes.{width-within, width≥0}
 use Rattle.edge.proofs.details_over.Statement.{statement}
 use Rattle.edge.proofs.details_over.Tie as tie
 

@@ -1,6 +1,5 @@
 -- A number held between two bounds.
 use mathlib.Core.Path.{_∙_, ap₂}
-use lib.IntN.{ℤ}
 use mir.Facts.{toZ-ofZ}
 use borrow.Author.Needs.{needs}
 use Rattle.integers.specs.MinMax.{min, max}

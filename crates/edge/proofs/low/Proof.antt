@@ -3,8 +3,6 @@ use mathlib.Core.Path.{sym}
 use lib.Signed.{_≤ℤ_}
 use Rattle.integers.specs.Machine.{known, tests}
 use Rattle.integers.specs.MinMax.{min-eqˡ, min-eqʳ}
-use Rattle.integers.specs.Order.{≤ℤ-of-<ℤ}
-use lib.Signed.{_<ℤ_}
 use Rattle.edge.proofs.low.Statement.{statement}
 use Rattle.edge.proofs.low.Tie as tie
 

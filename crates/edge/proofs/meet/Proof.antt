@@ -5,7 +5,7 @@ use mir.Facts.{toZ-ofZ}
 use borrow.Author.Needs.{needs}
 use Rattle.integers.specs.MinMax.{min, max}
 use Rattle.edge.proofs.Bits.{result-is, field-is}
-use Rattle.edge.proofs.Records.{span-eq}
+use Rattle.edge.specs.Lemmas.Records.{span-eq}
 use Rattle.edge.proofs.meet.Statement.{statement}
 use Rattle.edge.proofs.meet.Tie as tie
 

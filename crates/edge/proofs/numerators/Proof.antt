@@ -6,17 +6,17 @@ use lib.IntN.{ℤ, pos, _-ℤ_, _*ℤ_}
 use borrow.Author.Needs.{needs}
 use mir.Syntax.{w64}
 use mir.Val.{SFits}
-use mir.Facts.{toZ-ofZ}
 use Rattle.integers.specs.Units.{widthTimesExtentLimit}
 use Rattle.integers.specs.Within.{Within, bounds}
 use Rattle.integers.specs.Machine.{machine, linfits, known}
 use Rattle.edge.specs.declared.Axis.{Axis}
 use Rattle.edge.specs.declared.Samples.{Samples}
-use Rattle.edge.specs.Room.{AxisRoom, SamplesWithin, SamplesClosed}
-use Rattle.edge.specs.Code.{beyondAt, nearAt, pieceSum}
-use Rattle.edge.proofs.Bits.{back, fits-within, back-is, result-is}
-use Rattle.edge.proofs.Records.{details-eq}
-use Rattle.edge.proofs.Axes.{scale-fits, width-within, beyond-within, near-within}
+use Rattle.edge.specs.Room.{AxisRoom, SamplesWithin}
+use Rattle.edge.specs.Code.{SamplesClosed, beyondAt, nearAt, pieceSum}
+use Rattle.edge.proofs.Bits.{back, back-is, result-is}
+use Rattle.edge.specs.Lemmas.Records.{details-eq}
+use Rattle.edge.proofs.Held.{held-fits, held-back, held-within}
+use Rattle.edge.proofs.AxisNumbers.{width-held, beyond-within, near-within}
 use Rattle.edge.proofs.PieceBounds.{pieceLimit, pieceSum-within}
 use Rattle.edge.proofs.numerators.Statement.{statement}
 use Rattle.edge.proofs.numerators.Tie as tie
@@ -38,17 +38,8 @@ record Found (a : Axis) (side w : ℤ) (k u v : Samples) : Type 0 where
   near-bound : Bounded v
 
 module _ {a : Axis} {side w : ℤ} (r : AxisRoom a side w) where
-  product-is : SFits w64 w → back (a .scale) *ℤ back w ≡ a .scale *ℤ w
-  product-is f = ap₂ _*ℤ_ (toZ-ofZ (scale-fits r)) (toZ-ofZ f)
-
-  product-fits : SFits w64 w → SFits w64 (back (a .scale) *ℤ back w)
-  product-fits f = subst⁻¹ (SFits w64) (product-is f) (fits-within tt (width-within r))
-
   width-is : SFits w64 w → back (back (a .scale) *ℤ back w) ≡ a .scale *ℤ w
-  width-is f = known (product-fits f) (product-is f)
-
-  width-bound : SFits w64 w → Within (pos widthTimesExtentLimit) (back (back (a .scale) *ℤ back w))
-  width-bound f = subst⁻¹ (Within (pos widthTimesExtentLimit)) (width-is f) (width-within r)
+  width-is f = held-back tt (width-held r f) .is
 
   module _ {k : Samples} (c : SamplesClosed a side w k) {u : Samples} (e : u ≡ beyondAt a (back side) k) where
     past-is : u ≡ beyondAt a side k
@@ -71,24 +62,24 @@ beyond-at-requires-2 c κs = search needs
 mul-near-at : tie.Need-mul-near-at
 mul-near-at c =
     let s = c .before .before .before .before .before .before .before .before .before .before in
-    product-fits (s .pre .0) (record { sfits = c .struct-told6 .given .1 .1 .0 .1 })
+    held-fits tt (width-held (s .pre .0) (record { sfits = c .struct-told6 .given .1 .1 .0 .1 }))
 
 near-at-requires : tie.Need-near-at-requires
 near-at-requires c κs =
     let b = c .before .before .before .before .before .before .before in
     let p = b .before .before .before .pre in
-    (width-bound (p .0) (record { sfits = c .struct-told6 .given .1 .1 .0 .1 }), past-within (p .0) (p .3) (b .beyond-at .ensures))
+    (held-within (held-back tt (width-held (p .0) (record { sfits = c .struct-told6 .given .1 .1 .0 .1 }))), past-within (p .0) (p .3) (b .beyond-at .ensures))
 
 mul-near-at-2 : tie.Need-mul-near-at-2
 mul-near-at-2 c =
     let s = c .before .before .before .before .before .before .before .before .before .before .before .before .before .before .before in
-    product-fits (s .pre .1) (record { sfits = c .struct-told8 .given .1 .1 .0 .1 })
+    held-fits tt (width-held (s .pre .1) (record { sfits = c .struct-told8 .given .1 .1 .0 .1 }))
 
 near-at-requires-2 : tie.Need-near-at-requires-2
 near-at-requires-2 c κs =
     let b = c .before .before .before .before .before .before .before .before .before in
     let p = b .before .before .before .before .before .before .pre in
-    (width-bound (p .1) (record { sfits = c .struct-told8 .given .1 .1 .0 .1 }), past-within (p .1) (p .4) (b .beyond-at2 .ensures))
+    (held-within (held-back tt (width-held (p .1) (record { sfits = c .struct-told8 .given .1 .1 .0 .1 }))), past-within (p .1) (p .4) (b .beyond-at2 .ensures))
 
 -- ---- both directions
 module _ (c : lts.After-near-at2 (beyond-at-reads.Asked, beyond-at-reads.Learnt, near-at-reads.Asked, near-at-reads.Learnt, pieces-reads.Asked, pieces-reads.Learnt) reads.Pre reads.Post) where

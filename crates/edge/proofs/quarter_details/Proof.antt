@@ -13,11 +13,11 @@ use Rattle.edge.specs.declared.Edge.{Edge}
 use Rattle.edge.specs.declared.Cell.{Cell}
 use Rattle.edge.specs.Walk.{dx, dy}
 use Rattle.edge.specs.Room.{coordinateLimit, extentLimit}
-use Rattle.edge.specs.WholeTile.{OnSpan, OnCell}
-use Rattle.edge.specs.InQuarter.{toNearer, quarterH, quarterV, quarterD, in-cell, in-quarter}
-use Rattle.edge.proofs.Bits.{back-is, result-is}
-use Rattle.edge.proofs.Records.{details-eq}
-use Rattle.edge.proofs.Held.{back, Held, held-add, held-sub, held-neg, held-mul, held-fits, held-back, held-within}
+use Rattle.edge.specs.Laws.WholeTile.{OnSpan, OnCell}
+use Rattle.edge.proofs.InQuarter.{toNearer, quarterH, quarterV, quarterD, in-cell, in-quarter}
+use Rattle.edge.proofs.Bits.{back, back-is, result-is}
+use Rattle.edge.specs.Lemmas.Records.{details-eq}
+use Rattle.edge.proofs.Held.{Held, held-add, held-sub, held-neg, held-mul, held-fits, held-back, held-within}
 use Rattle.edge.proofs.Sizes.{difference, width-within}
 use Rattle.edge.proofs.quarter_details.Statement.{statement}
 use Rattle.edge.proofs.quarter_details.Tie as tie
@@ -49,7 +49,7 @@ module _ (s : tie.Start) where
   w = s .args .c .width
 
   width : Held limit (back w) w
-  width = let k = width-within (s .pre .0) (s .pre .1) (s .pre .2) in record { is = back-is tt k; within = k }
+  width = let k = width-within (s .pre .0) in record { is = back-is tt k; within = k }
 
   module _ {side p : ℤ} (i : Within (pos coordinateLimit) side) (j : Within (pos coordinateLimit) p) (o : OnSpan side w p) where
     offset : Held limit (back (back p -ℤ back side)) (p -ℤ side)

@@ -13,7 +13,8 @@ use Rattle.integers.specs.Within.{bounds}
 use Rattle.integers.specs.Machine.{machine, linfits, tests}
 use Rattle.integers.specs.MinMax.{min, max, min-≤ˡ, min-≤ʳ, max-≥ˡ, max-≥ʳ}
 use Rattle.edge.specs.Code.{first, second}
-use Rattle.edge.proofs.Held.{back}
+use Rattle.edge.proofs.Bits.{back}
+use Rattle.edge.proofs.Held.{}
 use Rattle.edge.proofs.same_half.Statement.{statement}
 use Rattle.edge.proofs.same_half.Tie as tie
 

@@ -7,8 +7,8 @@ use mir.Facts.{toZ-ofZ}
 use Rattle.integers.specs.Within.{Within}
 use Rattle.edge.specs.Room.{coordinateLimit}
 use Rattle.edge.specs.Code.{SameHalf}
-use Rattle.edge.proofs.Bits.{back-is}
-use Rattle.edge.proofs.Held.{back, held-within}
+use Rattle.edge.proofs.Bits.{back, back-is}
+use Rattle.edge.proofs.Held.{held-within}
 use Rattle.edge.proofs.Sizes.{coordinate, half-high}
 use Rattle.edge.proofs.same_quarter.Statement.{statement}
 use Rattle.edge.proofs.same_quarter.Tie as tie

@@ -2,13 +2,13 @@
 use mathlib.Core.Path.{refl, _∙_, sym, ap}
 use mathlib.Core.List.{[], _∷_}
 use mathlib.Core.Logic.{inl, inr}
-use lib.IntN.{ℤ, pos, _-ℤ_}
+use lib.IntN.{pos, _-ℤ_}
 use lib.Signed.{_≤ℤ_, _<ℤ_}
 use mir.Facts.{toZ-ofZ, sfits-lit}
 use Rattle.integers.specs.Ring.{read, ring}
 use Rattle.integers.specs.Within.{bounds}
 use Rattle.integers.specs.Machine.{machine, linfits, known, tests}
-use Rattle.edge.proofs.Records.{span-eq}
+use Rattle.edge.specs.Lemmas.Records.{span-eq}
 use Rattle.edge.proofs.Signs.{strip-forward, strip-backward, strip-between, strip-outside}
 use Rattle.edge.proofs.strip.Statement.{statement}
 use Rattle.edge.proofs.strip.Tie as tie

@@ -1,35 +1,33 @@
 -- The steps of a direction between its two sides.
-use mathlib.Core.Path.{_≡_, _∙_, ap₂, subst⁻¹}
+use mathlib.Core.Path.{_≡_, _∙_, ap₂}
 use mathlib.Core.List.{[]}
-use lib.IntN.{ℤ, pos}
+use lib.IntN.{ℤ}
 use mir.Facts.{toZ-ofZ}
 use Rattle.integers.specs.Linear.{none!, linear, lin≤}
-use Rattle.integers.specs.Within.{Within, within-le}
-use Rattle.edge.specs.Crossings.{strip}
-use Rattle.edge.specs.Room.{crossingLimit}
-use Rattle.edge.proofs.ToSide.{diff-fits, side-fits, side-is, side-within, width-fits, sum-fits, sum-is, sum-within, sign-fits}
+use Rattle.integers.specs.Within.{within-le}
+use Rattle.edge.specs.Cuts.{strip}
+use Rattle.edge.proofs.Held.{held-fits, held-back, held-within}
+use Rattle.edge.proofs.AxisNumbers.{sign-held, diff-held, side-held, width-held, sum-held}
 use Rattle.edge.proofs.strip_of.Statement.{statement}
 use Rattle.edge.proofs.strip_of.Tie as tie
 
 sub-near : tie.Need-sub-near
-sub-near c = diff-fits (c .before .before .pre)
+sub-near c = held-fits tt (diff-held (c .before .before .pre))
 
 mul-near : tie.Need-mul-near
-mul-near c = side-fits (c .before .before .before .before .pre)
+mul-near c = held-fits tt (side-held (c .before .before .before .before .pre))
 
 mul-strip : tie.Need-mul-strip
-mul-strip c = let s = c .before .before .before .before .before .before in width-fits (s .pre) (s .fits .width)
+mul-strip c = let s = c .before .before .before .before .before .before in held-fits tt (width-held (s .pre) (s .fits .width))
 
 add-strip : tie.Need-add-strip
-add-strip c = let s = c .before .before .before .before .before .before in sum-fits (s .pre) (s .fits .width)
+add-strip c = let s = c .before .before .before .before .before .before in held-fits tt (sum-held (s .pre) (s .fits .width))
 
 strip-requires : tie.Need-strip-requires
 strip-requires c κs =
-    let s = c .before .before .before .before .before .before .before in
-    let r = s .pre in
-    let f = s .fits .width in (
-      subst⁻¹ (Within (pos crossingLimit)) (side-is r) (within-le (lin≤ [] none! (search linear depth 40) tt) (side-within r)),
-      subst⁻¹ (Within (pos crossingLimit)) (sum-is r f) (sum-within r f),
+    let s = c .before .before .before .before .before .before .before in (
+      within-le (lin≤ [] none! (search linear depth 40) tt) (held-within (held-back tt (side-held (s .pre)))),
+      within-le (lin≤ [] none! (search linear depth 40) tt) (held-within (held-back tt (sum-held (s .pre) (s .fits .width)))),
     )
 
 strip-eq : {s s′ p p′ q q′ n n′ : ℤ} → s ≡ s′ → p ≡ p′ → q ≡ q′ → n ≡ n′ → strip s p q n ≡ strip s′ p′ q′ n′
@@ -39,7 +37,7 @@ returns : tie.Need-returns
 returns c =
     let s = c .before .before .before .before .before .before .before .before in
     let r = s .pre in
-    c .strip .ensures ∙ strip-eq (toZ-ofZ (sign-fits r)) (side-is r) (sum-is r (s .fits .width)) (toZ-ofZ (s .fits .n))
+    c .strip .ensures ∙ strip-eq (sign-held r .is) (held-back tt (side-held r) .is) (held-back tt (sum-held r (s .fits .width)) .is) (toZ-ofZ (s .fits .n))
 
 pub strip-of-spec : {M : Type 1} → statement M
 strip-of-spec = tie.close (tie.spec sub-near mul-near mul-strip add-strip strip-requires returns)

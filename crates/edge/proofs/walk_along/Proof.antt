@@ -19,13 +19,13 @@ use Rattle.edge.specs.declared.Edge.{Edge}
 use Rattle.edge.specs.declared.Axis.{Axis}
 use Rattle.edge.specs.declared.Walk.{Walk}
 use Rattle.edge.specs.Walk.{extent, sign, dx, dy, ax, ay, steps}
-use Rattle.edge.specs.WalkLaws.{sign-extent}
+use Rattle.edge.specs.Lemmas.Ends.{sign-extent}
 use Rattle.edge.specs.Room.{extentLimit}
 use Rattle.edge.specs.Straight.{Straight, level, upright, diagonal, unitSteps}
 use Rattle.edge.specs.Code.{fine, unit}
-use Rattle.edge.proofs.Bits.{result-is, back-is}
-use Rattle.edge.proofs.Records.{axis-eq}
-use Rattle.edge.proofs.Held.{back, Held, held-mul, held-fits, held-back}
+use Rattle.edge.proofs.Bits.{back, result-is, back-is}
+use Rattle.edge.specs.Lemmas.Records.{axis-eq}
+use Rattle.edge.proofs.Held.{Held, held-mul, held-fits, held-back}
 use Rattle.edge.proofs.Sizes.{difference, extent-within}
 use Rattle.edge.proofs.walk_along.Statement.{statement}
 use Rattle.edge.proofs.walk_along.Tie as tie

@@ -18,7 +18,7 @@ use Rattle.edge.specs.declared.Cell.{Cell}
 use Rattle.edge.specs.declared.Axis.{Axis}
 use Rattle.edge.specs.Walk.{beyond}
 use Rattle.edge.specs.Inside.{twiceMiddle, Between, SomeStepInside}
-use Rattle.edge.specs.Refinement.{finer, Pace, moving, standing, Cut}
+use Rattle.edge.specs.Laws.Refinement.{finer, Pace, moving, standing, Cut}
 
 -- ---- a step from u to u + s, where s is at most one either way
 -- k times over, in k parts: both ends of part ρ added up

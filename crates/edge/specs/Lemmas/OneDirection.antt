@@ -2,7 +2,6 @@
 -- and from the middle on.
 --
 -- Main results
---   toMiddle                      the step at which the middle is crossed
 --   ClosedRun                     the walk is between the sides, or on them, from step u to step v
 --   past-linear                   there the held coordinate is linear
 --   OneHalf, near-linear          and where it does not cross the middle either, so is the distance to the nearer side
@@ -20,14 +19,10 @@ use Rattle.integers.specs.Clamp.{clamp, clamp-below, clamp-inside, clamp-above}
 use Rattle.integers.specs.Tent.{tent-inside}
 use Rattle.edge.specs.declared.Axis.{Axis}
 use Rattle.edge.specs.Walk.{beyond, past, near}
-use Rattle.edge.specs.WalkLaws.{Direction, forward, still, backward, Steady}
-use Rattle.edge.specs.StepLaws.{Closed}
-use Rattle.edge.specs.Runs.{LinearOn, LinearThrice}
-use Rattle.edge.specs.Crossings.{toSide}
-
--- the step at which a direction crosses the middle between its sides (any step, where it stands still)
-abbrev pub toMiddle : Axis → ℤ → ℤ → ℤ
-toMiddle a side half = a .sign *ℤ (toSide a side +ℤ a .scale *ℤ half)
+use Rattle.edge.specs.Lemmas.Ends.{Direction, forward, still, backward, Steady}
+use Rattle.edge.specs.Code.{Closed}
+use Rattle.edge.specs.Lemmas.Runs.{LinearOn, LinearThrice}
+use Rattle.edge.specs.Cuts.{toMiddle}
 
 -- ---- linear runs
 linear-point : (f : ℤ → ℤ) {u v : ℤ} → v ≤ℤ u → LinearOn f u v

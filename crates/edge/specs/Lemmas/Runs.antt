@@ -5,7 +5,7 @@
 --   idle-run                      nothing is added from a to b
 --   linear-run                    the piece law: (f(a) + f(b)) × (g(b) − g(a)) is added from a to b
 --   three-pieces                  nothing up to p and from q on, and three linear runs between
-use mathlib.Core.Path.{_≡_, refl, sym, _∙_, ap, subst⁻¹}
+use mathlib.Core.Path.{_≡_, refl, _∙_, ap, subst⁻¹}
 use mathlib.Core.List.{[], _∷_}
 use Prim.Native.Nat.{ℕ, zero, suc, _+_, _≤_}
 use native.Mathlib.Nat.{add-suc, add-zero}

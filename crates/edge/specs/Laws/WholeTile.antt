@@ -21,9 +21,9 @@ use Rattle.edge.specs.declared.Edge.{Edge}
 use Rattle.edge.specs.declared.Cell.{Cell}
 use Rattle.edge.specs.declared.Axis.{Axis}
 use Rattle.edge.specs.Walk.{ax, ay, steps, xAxis, yAxis, beyond, past}
-use Rattle.edge.specs.WalkLaws.{x-end, y-end}
+use Rattle.edge.specs.Lemmas.Ends.{x-end, y-end}
 use Rattle.edge.specs.Integrals.{areaNum}
-use Rattle.edge.specs.OneDirection.{ClosedRun}
+use Rattle.edge.specs.Lemmas.OneDirection.{ClosedRun}
 use Rattle.edge.specs.Rounded.{rootTerm}
 
 -- p lies between two sides, w apart, or on one of them

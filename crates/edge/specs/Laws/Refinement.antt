@@ -29,7 +29,7 @@ use Rattle.edge.specs.declared.Edge.{Edge}
 use Rattle.edge.specs.declared.Cell.{Cell}
 use Rattle.edge.specs.declared.Axis.{Axis}
 use Rattle.edge.specs.Walk.{dx, dy, ax, ay, steps, xAxis, yAxis, beyond, past, near}
-use Rattle.edge.specs.WalkLaws.{direction, direction-within}
+use Rattle.edge.specs.Lemmas.Ends.{direction, direction-within}
 use Rattle.edge.specs.Integrals.{along, areaNum, hNum, vNum, dNum}
 
 -- ---- sums

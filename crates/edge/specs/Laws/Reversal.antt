@@ -2,10 +2,10 @@
 --
 -- Main results
 --   reverse, opposite                                        the edge with its end points exchanged; details of the opposite sign
---   extent-neg, sign-neg, steps-reverse                      the walk back is as long, and its signs are opposite
+--   steps-reverse                                            the walk back is as long
 --   area-reverse, h-reverse, v-reverse, d-reverse            each numerator is opposite
 --   details-reverse, root-reverse                            and so are the rounded details, and the root term
-use mathlib.Core.Path.{_≡_, refl, _∙_, ap, ap₂}
+use mathlib.Core.Path.{_≡_, _∙_, ap, ap₂}
 use mathlib.Core.List.{[], _∷_}
 use Prim.Native.Nat.{ℕ, zero, suc, _+_, _*_}
 use native.Mathlib.Nat.{add-zero}
@@ -22,7 +22,8 @@ use Rattle.edge.specs.declared.Cell.{Cell}
 use Rattle.edge.specs.declared.Details.{Details}
 use Rattle.edge.specs.declared.Axis.{Axis}
 use Rattle.edge.specs.Walk.{extent, sign, steps, xAxis, yAxis, beyond, past, near}
-use Rattle.edge.specs.WalkLaws.{steps-pos, x-end, y-end}
+use Rattle.edge.specs.Lemmas.Records.{details-eq}
+use Rattle.edge.specs.Lemmas.Ends.{extent-neg, sign-neg, steps-pos, x-end, y-end}
 use Rattle.edge.specs.Integrals.{along, areaNum, hNum, vNum, dNum}
 use Rattle.edge.specs.Rounded.{details, rootTerm}
 
@@ -53,18 +54,6 @@ S-reverse : (f g F G : ℕ → ℤ) (n : ℕ) → Mirrors f F n → Mirrors g G 
 S-reverse f g F G n p q = S-back f g F G n p q n 0 (add-zero n) ∙ comb (S f g 0 ∷ S f g n ∷ []) (S-zero f g) (search read depth 40) tt
 
 -- ---- one direction
-pub extent-neg : (d : ℤ) → extent (negℤ d) ≡ extent d
-unfolding extent
-extent-neg (pos zero) = refl
-extent-neg (pos (suc n)) = refl
-extent-neg (negsuc n) = refl
-
-pub sign-neg : (d : ℤ) → sign (negℤ d) ≡ negℤ (sign d)
-unfolding sign
-sign-neg (pos zero) = refl
-sign-neg (pos (suc n)) = refl
-sign-neg (negsuc n) = refl
-
 -- b is the way back along a, in n steps
 record WayBack (a b : Axis) (n : ℕ) : Type 0 where
   scale : b .scale ≡ a .scale
@@ -156,10 +145,7 @@ module _ (e : Edge) (c : Cell) where
 
   pub details-reverse : details (reverse e) c ≡ opposite (details e c)
   unfolding details
-  details-reverse =
-      let back = details (reverse e) c in
-      ap (λ z. record { h = z; v = back .v; d = back .d }) (round-back hNum h-reverse)
-      ∙ ap₂ (λ z u. record { h = negℤ (details e c .h); v = z; d = u }) (round-back vNum v-reverse) (round-back dNum d-reverse)
+  details-reverse = details-eq (round-back hNum h-reverse) (round-back vNum v-reverse) (round-back dNum d-reverse)
 
 pub root-reverse : (e : Edge) → rootTerm (reverse e) ≡ negℤ (rootTerm e)
 unfolding rootTerm

@@ -18,18 +18,17 @@ use Rattle.integers.specs.Linear.{le, eq, _&_, linear, lin≤}
 use Rattle.integers.specs.MinMax.{min}
 use Rattle.integers.specs.Clamp.{clamp-inside}
 use Rattle.integers.specs.Tent.{tent-inside}
-use Rattle.integers.specs.Rounding.{roundHalfAway}
-use Rattle.integers.specs.RoundHalfAway.{roundHalfAway-mul}
 use Rattle.edge.specs.declared.Edge.{Edge}
 use Rattle.edge.specs.declared.Cell.{Cell}
 use Rattle.edge.specs.declared.Axis.{Axis}
 use Rattle.edge.specs.Walk.{dx, dy, ax, ay, steps, xAxis, yAxis, beyond, past, near}
-use Rattle.edge.specs.WalkLaws.{steps-pos, beyond-start, x-end, y-end, past-scale, near-scale}
+use Rattle.edge.specs.Lemmas.Records.{details-eq}
+use Rattle.edge.specs.Lemmas.Ends.{rounded-whole, beyond-start, x-end, y-end, past-scale, near-scale}
 use Rattle.edge.specs.Integrals.{along, hNum, vNum, dNum}
 use Rattle.edge.specs.Rounded.{details}
-use Rattle.edge.specs.Runs.{piece, LinearOn, upto, upto-zero, upto-all, linear-run}
-use Rattle.edge.specs.OneDirection.{OneHalf, before, behind, past-linear, near-linear}
-use Rattle.edge.specs.WholeTile.{OnSpan, OnCell, stays-between}
+use Rattle.edge.specs.Lemmas.Runs.{piece, LinearOn, upto, upto-zero, upto-all, linear-run}
+use Rattle.edge.specs.Lemmas.OneDirection.{OneHalf, before, behind, past-linear, near-linear}
+use Rattle.edge.specs.Laws.WholeTile.{OnSpan, OnCell, stays-between}
 use Rattle.edge.specs.Code.{SameHalf, first, second, SameQuarter}
 
 -- from p, between two sides w apart, to the nearer of them
@@ -162,11 +161,7 @@ module _ {e : Edge} {c : Cell} {half : ℤ} (m : c .width ≡ half +ℤ half) (h
   d-in-quarter = one-piece (x-unbent .tented) (y-unbent .tented) ∙ ring (pos (ax e) ∷ pos (ay e) ∷ tx0 ∷ tx1 ∷ ty0 ∷ ty1 ∷ []) (search read depth 40) tt
 
   -- ---- rounding
-  kept : {z : ℤ} (W : ℤ) → z ≡ W *ℤ pos (steps e) → roundHalfAway z (steps e) ≡ W
-  kept W k = ap (λ z. roundHalfAway z (steps e)) k ∙ roundHalfAway-mul W (steps-pos e)
-
   pub in-quarter : details e c ≡ record { h = quarterH e c; v = quarterV e c; d = quarterD e c }
   unfolding details
   in-quarter =
-      ap₂ (λ h v. record { h = h; v = v; d = roundHalfAway (dNum e c) (steps e) }) (kept (quarterH e c) h-in-quarter) (kept (quarterV e c) v-in-quarter)
-      ∙ ap (λ d. record { h = quarterH e c; v = quarterV e c; d = d }) (kept (quarterD e c) d-in-quarter)
+      details-eq (rounded-whole e (quarterH e c) h-in-quarter) (rounded-whole e (quarterV e c) v-in-quarter) (rounded-whole e (quarterD e c) d-in-quarter)

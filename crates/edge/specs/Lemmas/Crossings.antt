@@ -1,46 +1,30 @@
 -- The steps of a walk that lie strictly inside a cell are consecutive: from the crossing of one side to that of the other, in both directions at once.
 --
 -- Main results
---   strip                       the steps of one direction between two lines, by the sign of its walk
---   strip-steps                 they are just the steps strictly between the sides
---   span, span-steps            the same for both directions, and so for a cell
+--   StepsWith                   of n steps, those from first to last are just the ones with a property
+--   strip-steps                 `stripOf` has just the steps strictly between its sides
+--   span-steps                  `span` has just those strictly inside the cell
+--   span-low, span-high         and is among the walk's steps
 --   span-inside, inside-span    first < last just where some step lies strictly inside
-use mathlib.Core.Path.{_≡_, refl, sym, _∙_, ap, subst}
+use mathlib.Core.Path.{_≡_, refl, subst}
 use mathlib.Core.List.{[], _∷_}
 use mathlib.Core.Logic.{_⊎_, inl, inr}
 use mathlib.Core.Bool.{Bool, true, false, cond}
-use Prim.Native.Nat.{ℕ, zero, suc, _+_, _≤_}
+use Prim.Native.Nat.{ℕ, _+_, _≤_}
 use native.Mathlib.Omega.{arith}
 use lib.IntN.{ℤ, pos, negsuc, negℤ, _+ℤ_, _-ℤ_, _*ℤ_}
 use lib.Signed.{_≤ℤ_, _<ℤ_, ltZ}
-use Rattle.integers.specs.Ring.{read, ring}
 use Rattle.integers.specs.Order.{≤ℤ-or-<ℤ, ≤ℤ-trans, ≤ℤ-of-≡, add-one-≤ℤ, <ℤ-of-add-one-≤ℤ, ltZ-true, ltZ-false, pos-≤ℤ, ≤-of-pos, nonneg}
-use Rattle.integers.specs.Linear.{le, lt, eq, _&_, none!, linear, lin≤, lin<, lin⊥}
-use Rattle.integers.specs.Within.{Within}
+use Rattle.integers.specs.Linear.{le, lt, _&_, linear, lin≤, lin<, lin⊥}
 use Rattle.integers.specs.MinMax.{min, max, min-≤ˡ, min-≤ʳ, min-greatest, max-≥ˡ, max-≥ʳ, max-least}
 use Rattle.edge.specs.declared.Axis.{Axis}
+use Rattle.edge.specs.Cuts.{strip, stripOf, meet, span}
 use Rattle.edge.specs.declared.Cell.{Cell}
 use Rattle.edge.specs.declared.Span.{Span}
-use Rattle.edge.specs.Walk.{beyond}
-use Rattle.edge.specs.WalkLaws.{Direction, forward, still, backward, Steady}
+use Rattle.edge.specs.Lemmas.Ends.{Direction, forward, still, backward, Steady}
 use Rattle.edge.specs.Inside.{Between, SomeStepInside}
-use Rattle.edge.specs.StepLaws.{Outside, between-or-outside}
 
 -- ---- one direction
--- The walk has moved by `sign × t` after t steps, and is between the lines from `near` to `far`, both measured from its start. Where it stands still it
--- is between them for all n steps, or for none.
-unfoldable pub strip : ℤ → ℤ → ℤ → ℤ → Span
-strip (pos zero) near far n = cond (ltZ near (pos 0)) (cond (ltZ (pos 0) far) (record { first = pos 0; last = n }) (record { first = n; last = pos 0 })) (record { first = n; last = pos 0 })
-strip (pos (suc s)) near far n = record { first = near; last = far }
-strip (negsuc s) near far n = record { first = negℤ far; last = negℤ near }
-
--- from the start to a side, `scale` times over
-abbrev pub toSide : Axis → ℤ → ℤ
-toSide a side = a .scale *ℤ (side -ℤ a .start)
-
-abbrev pub stripOf : Axis → ℤ → ℤ → ℤ → Span
-stripOf a side w n = strip (a .sign) (toSide a side) (toSide a side +ℤ a .scale *ℤ w) n
-
 -- of the steps t from 0 to n, those with first ≤ t and t + 1 ≤ last are just the ones with P
 pub record StepsWith (P : ℤ → Type 0) (n : ℤ) (s : Span) : Type 0 where
   pub to : (t : ℤ) → pos 0 ≤ℤ t → (t +ℤ pos 1) ≤ℤ n → P t → (s .first ≤ℤ t) × ((t +ℤ pos 1) ≤ℤ s .last)
@@ -116,13 +100,6 @@ pub strip-steps : (a : Axis) → Steady a → (side w n : ℤ) → StepsWith (Be
 strip-steps a s side w n = steps-of (a .scale) (a .start) side w n (s .signed)
 
 -- ---- both directions
--- the steps from 0 to n in both spans
-abbrev pub meet : Span → Span → ℤ → Span
-meet r s n = record { first = max (pos 0) (max (r .first) (s .first)); last = min n (min (r .last) (s .last)) }
-
-abbrev pub span : Axis → Axis → Cell → ℤ → Span
-span a b c n = meet (stripOf a (c .left) (c .width) n) (stripOf b (c .top) (c .width) n) n
-
 meet-steps : {P Q : ℤ → Type 0} {n : ℤ} {r s : Span} → StepsWith P n r → StepsWith Q n s → StepsWith (λ t. P t × Q t) n (meet r s n)
 meet-steps {P} {Q} {n} {r} {s} p q = record {
   to = λ t h k b.

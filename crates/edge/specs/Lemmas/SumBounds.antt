@@ -19,7 +19,7 @@ use Rattle.integers.specs.Tent.{tent, tent-nonneg, tent-half}
 use Rattle.integers.specs.Trapezoid.{S, S-zero, S-suc}
 use Rattle.edge.specs.declared.Axis.{Axis}
 use Rattle.edge.specs.Walk.{beyond, past, near}
-use Rattle.edge.specs.WalkLaws.{Direction, forward, still, backward, direction-within}
+use Rattle.edge.specs.Lemmas.Ends.{Direction, forward, still, backward, direction-within}
 use Rattle.edge.specs.Integrals.{along}
 
 -- x is a sum of n steps: M bounds two neighbouring values of what is summed, and the sum runs over the moves of direction b

@@ -17,21 +17,17 @@ use Rattle.integers.specs.Ring.{read, ring, comb}
 use Rattle.integers.specs.Order.{≤ℤ-mul, ≤ℤ-mul-nonneg, ≤-of-pos, nonneg}
 use Rattle.integers.specs.Linear.{le, lt, _&_, linear, lin<}
 use Rattle.integers.specs.Rounding.{roundHalfAway}
-use Rattle.integers.specs.RoundHalfAway.{roundHalfAway-mul}
 use Rattle.edge.specs.declared.Edge.{Edge}
 use Rattle.edge.specs.declared.Cell.{Cell}
 use Rattle.edge.specs.declared.Axis.{Axis}
-use Rattle.edge.specs.declared.Details.{Details}
 use Rattle.edge.specs.Walk.{ax, ay, steps, xAxis, yAxis, past, near}
 use Rattle.edge.specs.Integrals.{along, hNum, vNum, dNum}
 use Rattle.edge.specs.Inside.{Between, SomeStepInside, Inside, Contains}
 use Rattle.edge.specs.Rounded.{details}
-use Rattle.edge.specs.WalkLaws.{steps-pos, Steady, steady-within, x-steady, y-steady}
-use Rattle.edge.specs.StepLaws.{Outside, Rests, between-or-outside, outside-rests}
-use Rattle.edge.specs.Runs.{piece, Idle, upto-zero, upto-all, idle-run}
-
-triple : {h h′ v v′ d d′ : ℤ} → h ≡ h′ → v ≡ v′ → d ≡ d′ → _≡_ {A = Details} (record { h = h; v = v; d = d }) (record { h = h′; v = v′; d = d′ })
-triple {h} {h′} {v} {v′} {d} {d′} p q r = ap₂ (λ x y. record { h = x; v = y; d = d }) p q ∙ ap (λ z. record { h = h′; v = v′; d = z }) r
+use Rattle.edge.specs.Lemmas.Records.{details-eq}
+use Rattle.edge.specs.Lemmas.Ends.{rounded-whole, Steady, steady-within, x-steady, y-steady}
+use Rattle.edge.specs.Lemmas.Steps.{exchanged, Outside, Rests, between-or-outside, outside-rests}
+use Rattle.edge.specs.Lemmas.Runs.{piece, Idle, upto-zero, upto-all, idle-run}
 
 -- ---- a cell inside another
 between-wider : {a : Axis} {side′ w′ t : ℤ} (side w : ℤ) → pos 0 ≤ℤ a .scale → side ≤ℤ side′ → (side′ +ℤ w′) ≤ℤ (side +ℤ w)
@@ -103,11 +99,7 @@ module _ {a b : Axis} {c : Cell} {n : ℕ} (sa : Steady a) (sb : Steady b) (hw :
   near-past-zero = idle-zero (near a (c .left) (c .width)) (past b (c .top) (c .width)) n (record { none = λ t h k. idle-near-past (rests t h k) })
 
   pub past-near-zero : along (near b (c .top) (c .width)) (past a (c .left) (c .width)) n ≡ pos 0
-  past-near-zero = idle-zero (near b (c .top) (c .width)) (past a (c .left) (c .width)) n (record { none = λ t h k. idle-near-past (swap (rests t h k)) })
-    where
-      swap : {P Q : Type 0} → P ⊎ Q → Q ⊎ P
-      swap (inl p) = inr p
-      swap (inr q) = inl q
+  past-near-zero = idle-zero (near b (c .top) (c .width)) (past a (c .left) (c .width)) n (record { none = λ t h k. idle-near-past (exchanged (rests t h k)) })
 
   pub near-near-zero : along (near a (c .left) (c .width)) (near b (c .top) (c .width)) n ≡ pos 0
   near-near-zero = idle-zero (near a (c .left) (c .width)) (near b (c .top) (c .width)) n (record { none = λ t h k. idle-near-near (rests t h k) })
@@ -129,14 +121,12 @@ module _ (e : Edge) (c : Cell) (hw : pos 0 ≤ℤ c .width) (none : Inside e c �
   unfolding dNum
   d-zero = near-near-zero (x-steady e) (y-steady e) hw none-inside
 
+  zero : {z : ℤ} → z ≡ pos 0 → roundHalfAway z (steps e) ≡ pos 0
+  zero {z} k = rounded-whole e (pos 0) (comb (z ∷ pos (steps e) ∷ []) k (search read depth 40) tt)
+
   pub details-zero : details e c ≡ record { h = pos 0; v = pos 0; d = pos 0 }
   unfolding details
-  details-zero = triple (zero h-zero) (zero v-zero) (zero d-zero)
-    where
-      zero : {z : ℤ} → z ≡ pos 0 → roundHalfAway z (steps e) ≡ pos 0
-      zero {z} k =
-          ap (λ z. roundHalfAway z (steps e)) {y = pos 0 *ℤ pos (steps e)} (comb (z ∷ pos (steps e) ∷ []) k (search read depth 40) tt)
-          ∙ roundHalfAway-mul (pos 0) (steps-pos e)
+  details-zero = details-eq (zero h-zero) (zero v-zero) (zero d-zero)
 
 pub details-zero-within : (e : Edge) {c b : Cell} → Contains c b → pos 0 ≤ℤ b .width → (Inside e c → ⊥) → details e b ≡ record { h = pos 0; v = pos 0; d = pos 0 }
 details-zero-within e {c} {b} k hw none = details-zero e b hw (λ i. none (inside-wider e k i))

@@ -11,13 +11,13 @@ use mathlib.Core.Logic.{_⊎_, inl, inr}
 use lib.IntN.{ℤ, pos, _+ℤ_, _-ℤ_, _*ℤ_}
 use lib.Signed.{_≤ℤ_, _<ℤ_}
 use Rattle.integers.specs.Order.{≤ℤ-or-<ℤ}
-use Rattle.integers.specs.Linear.{le, lt, eq, _&_, linear, lin≤, lin⊥}
+use Rattle.integers.specs.Linear.{le, lt, _&_, linear, lin≤, lin⊥}
 use Rattle.integers.specs.Within.{Within}
 use Rattle.integers.specs.Clamp.{clamp-below, clamp-above}
 use Rattle.integers.specs.Tent.{tent-outside}
 use Rattle.edge.specs.declared.Axis.{Axis}
+use Rattle.edge.specs.Code.{Closed}
 use Rattle.edge.specs.Walk.{beyond, past, near}
-use Rattle.edge.specs.WalkLaws.{beyond-next}
 use Rattle.edge.specs.Inside.{Between, twiceMiddle}
 
 pub data Outside (a : Axis) (side w t : ℤ) : Type 0 where
@@ -38,11 +38,6 @@ high-of-middle u v m h k = go (≤ℤ-or-<ℤ m u)
     go : (m ≤ℤ u) ⊎ (u <ℤ m) → m ≤ℤ u
     go (inl a) = a
     go (inr a) = lin⊥ (u ∷ v ∷ m ∷ []) (le h & le k & lt a) (search linear depth 40) tt
-
--- between the sides, or on them
-pub record Closed (a : Axis) (side w t : ℤ) : Type 0 where
-  pub low : pos 0 ≤ℤ beyond a side t
-  pub high : beyond a side t ≤ℤ (a .scale *ℤ w)
 
 module _ (a : Axis) (side w t : ℤ) (unit : Within (pos 1) (a .sign)) where
   abbrev u : ℤ
@@ -82,6 +77,10 @@ module _ (a : Axis) (side w t : ℤ) (unit : Within (pos 1) (a .sign)) where
       (record { low = high-of-middle u v (pos 0) lo up; high = low-of-middle u v m hi down }, record { low = high-of-middle v u (pos 0) (swap≥ lo) down; high = low-of-middle v u m (swap≤ hi) up })
 
 -- ---- what a step outside adds
+pub exchanged : {P Q : Type 0} → P ⊎ Q → Q ⊎ P
+exchanged (inl p) = inr p
+exchanged (inr q) = inl q
+
 pub record Rests (a : Axis) (side w t : ℤ) : Type 0 where
   pub near₀ : near a side w t ≡ pos 0
   pub near₁ : near a side w (t +ℤ pos 1) ≡ pos 0

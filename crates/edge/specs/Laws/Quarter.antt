@@ -20,7 +20,7 @@ use Rattle.edge.specs.declared.Edge.{Edge}
 use Rattle.edge.specs.declared.Cell.{Cell}
 use Rattle.edge.specs.declared.Axis.{Axis}
 use Rattle.edge.specs.Walk.{ax, ay, steps, xAxis, yAxis, beyond, past, near}
-use Rattle.edge.specs.WalkLaws.{beyond-start, x-end, y-end, past-scale, near-scale}
+use Rattle.edge.specs.Lemmas.Ends.{beyond-start, x-end, y-end, past-scale, near-scale}
 use Rattle.edge.specs.Integrals.{along, areaNum, hNum, vNum, dNum}
 
 -- quarter (i, j) of a cell whose width is half + half: i is 0 on the left and 1 on the right, j is 0 above and 1 below

@@ -3,11 +3,8 @@
 -- Main results
 --   span-of-inside, inside-of-span        first < last just where the edge comes strictly inside
 --   span-decides                          the same as the answer of a test
-use mathlib.Core.Path.{_≡_, subst⁻¹}
-use mathlib.Core.Bool.{Bool, true, false}
-use Prim.Native.Nat.{ℕ}
-use lib.IntN.{ℤ, pos}
-use lib.Signed.{_≤ℤ_, _<ℤ_, ltZ}
+use mathlib.Core.Path.{subst⁻¹}
+use lib.Signed.{_<ℤ_, ltZ}
 use Rattle.integers.specs.Order.{nonneg, ltZ-true, ltZ-false}
 use Rattle.integers.specs.Linear.{le, lt, _&_, linear, lin⊥}
 use mathlib.Core.List.{[], _∷_}
@@ -16,9 +13,11 @@ use Rattle.edge.specs.declared.Edge.{Edge}
 use Rattle.edge.specs.declared.Walk.{Walk}
 use Rattle.edge.specs.Walk.{dx, dy, steps, xAxis, yAxis}
 use Rattle.edge.specs.Inside.{Inside}
-use Rattle.edge.specs.WalkLaws.{Steady, direction, x-steady, y-steady}
-use Rattle.edge.specs.Crossings.{span, span-inside, inside-span}
-use Rattle.edge.specs.Straight.{unitX, unitY, unitSteps, straight-inside, straight-inside-unit}
+use Rattle.edge.specs.Lemmas.Ends.{Steady, direction, x-steady, y-steady}
+use Rattle.edge.specs.Cuts.{span}
+use Rattle.edge.specs.Lemmas.Crossings.{span-inside, inside-span}
+use Rattle.edge.specs.Straight.{unitX, unitY}
+use Rattle.edge.specs.Laws.StraightEdges.{straight-inside, straight-inside-unit}
 use Rattle.edge.specs.Code.{IsWalk, fine, unit, Decides}
 
 pub unit-x-steady : (e : Edge) → Steady (unitX e)

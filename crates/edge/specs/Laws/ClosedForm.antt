@@ -2,19 +2,19 @@
 -- crosses the cell's middle in one direction and in the other. (Where none does, they are 0: the zero law.)
 --
 -- Main results
---   cuts                                                      the steps that cut the walk: enter, two middles in their order, leave
+--   ordered                                                   the cuts are steps of the walk, in order
 --   cuts-closed                                               at each step from the first to the last the walk is in the closed cell
 --   near-past-closed, past-near-closed, near-near-closed      the closed form of a walk
 --   h-closed, v-closed, d-closed                              and of an edge
-use mathlib.Core.Path.{_≡_, refl, sym, _∙_, ap, subst}
+use mathlib.Core.Path.{_≡_, sym, _∙_, ap, subst}
 use mathlib.Core.List.{[], _∷_}
 use mathlib.Core.Logic.{_⊎_, inl, inr}
 use Prim.Native.Nat.{ℕ}
-use lib.IntN.{ℤ, pos, negsuc, negℤ, _+ℤ_, _-ℤ_, _*ℤ_}
+use lib.IntN.{ℤ, pos, negℤ, _+ℤ_, _-ℤ_}
 use lib.Signed.{_≤ℤ_, _<ℤ_}
 use Rattle.integers.specs.Ring.{read, ring}
-use Rattle.integers.specs.Order.{≤ℤ-or-<ℤ, ≤ℤ-trans, ≤ℤ-of-<ℤ, ≤ℤ-mul-nonneg, add-one-≤ℤ, nonneg}
-use Rattle.integers.specs.Linear.{le, lt, eq, _&_, none!, linear, lin≤, lin<, lin≡, lin⊥}
+use Rattle.integers.specs.Order.{≤ℤ-or-<ℤ, ≤ℤ-trans, ≤ℤ-of-<ℤ, ≤ℤ-mul-nonneg, add-one-≤ℤ}
+use Rattle.integers.specs.Linear.{le, lt, eq, _&_, none!, linear, lin≤, lin⊥}
 use Rattle.integers.specs.MinMax.{min, max, min-≤ˡ, min-≤ʳ, min-greatest, max-≥ˡ, max-≥ʳ, max-least}
 use Rattle.integers.specs.Clamp.{clamp, clamp-low, clamp-high}
 use Rattle.edge.specs.declared.Edge.{Edge}
@@ -24,19 +24,15 @@ use Rattle.edge.specs.declared.Samples.{Samples}
 use Rattle.edge.specs.Walk.{steps, xAxis, yAxis, past, near}
 use Rattle.edge.specs.Integrals.{along, hNum, vNum, dNum}
 use Rattle.edge.specs.Inside.{Between}
-use Rattle.edge.specs.WalkLaws.{Steady, steady-within, x-steady, y-steady}
-use Rattle.edge.specs.StepLaws.{Outside, Closed, Rests, between-or-outside, between-ends, outside-rests}
-use Rattle.edge.specs.Runs.{three, Idle, Ordered, three-pieces, upto-all}
-use Rattle.edge.specs.ZeroLaw.{idle-near-past, idle-near-near}
-use Rattle.edge.specs.Crossings.{span, span-steps, span-low, span-high}
-use Rattle.edge.specs.OneDirection.{toMiddle, ClosedRun, BothLinear, both-linear}
-
--- from the first step to the last, cut at the steps x and y where these lie between
-abbrev pub cutsAt : ℤ → ℤ → ℤ → ℤ → Samples
-cutsAt p q x y = record { first = p; second = min (clamp x p q) (clamp y p q); third = max (clamp x p q) (clamp y p q); fourth = q }
-
-abbrev pub cuts : Axis → Axis → Cell → ℤ → ℤ → Samples
-cuts a b c half n = cutsAt (span a b c n .first) (span a b c n .last) (toMiddle a (c .left) half) (toMiddle b (c .top) half)
+use Rattle.edge.specs.Lemmas.Ends.{Steady, steady-within, x-steady, y-steady}
+use Rattle.edge.specs.Lemmas.Steps.{exchanged, Outside, Rests, between-or-outside, between-ends, outside-rests}
+use Rattle.edge.specs.Code.{Closed}
+use Rattle.edge.specs.Lemmas.Runs.{three, Ordered, three-pieces, upto-all}
+use Rattle.edge.specs.Laws.Zero.{idle-near-past, idle-near-near}
+use Rattle.edge.specs.Cuts.{span, cuts}
+use Rattle.edge.specs.Lemmas.Crossings.{span-steps, span-low, span-high}
+use Rattle.edge.specs.Cuts.{toMiddle}
+use Rattle.edge.specs.Lemmas.OneDirection.{BothLinear, both-linear}
 
 abbrev pub threeAt : (ℤ → ℤ) → (ℤ → ℤ) → Samples → ℤ
 threeAt f g s = three f g (s .first) (s .second) (s .third) (s .fourth)
@@ -144,10 +140,6 @@ module _ (a b : Axis) (sa : Steady a) (sb : Steady b) (c : Cell) (half : ℤ) (e
   ly = both-linear b sb (c .top) half even p≤q (ordered .a≥p) (ordered .b≥a) (ordered .q≥b) (record { at = λ t i j. cuts-closed t i j .1 })
       (min-≤ʳ mx my) (max-≥ʳ mx my) middle-y
 
-  swap : {P Q : Type 0} → P ⊎ Q → Q ⊎ P
-  swap (inl x) = inr x
-  swap (inr x) = inl x
-
   pub near-past-closed : along (near a (c .left) w) (past b (c .top) w) n ≡ threeAt (near a (c .left) w) (past b (c .top) w) (cuts a b c half (pos n))
   near-past-closed =
       sym (upto-all (near a (c .left) w) (past b (c .top) w) n)
@@ -157,8 +149,8 @@ module _ (a b : Axis) (sa : Steady a) (sb : Steady b) (c : Cell) (half : ℤ) (e
   pub past-near-closed : along (near b (c .top) w) (past a (c .left) w) n ≡ threeAt (near b (c .top) w) (past a (c .left) w) (cuts a b c half (pos n))
   past-near-closed =
       sym (upto-all (near b (c .top) w) (past a (c .left) w) n)
-      ∙ three-pieces (near b (c .top) w) (past a (c .left) w) ordered (record { none = λ t h j. idle-near-past (swap (rests-early t h j)) })
-      (ly .tented) (lx .whole) (record { none = λ t h j. idle-near-past (swap (rests-late t h j)) })
+      ∙ three-pieces (near b (c .top) w) (past a (c .left) w) ordered (record { none = λ t h j. idle-near-past (exchanged (rests-early t h j)) })
+      (ly .tented) (lx .whole) (record { none = λ t h j. idle-near-past (exchanged (rests-late t h j)) })
 
   pub near-near-closed : along (near a (c .left) w) (near b (c .top) w) n ≡ threeAt (near a (c .left) w) (near b (c .top) w) (cuts a b c half (pos n))
   near-near-closed =

@@ -1,0 +1,50 @@
+-- The steps of a walk inside a cell, and where the cell's two middles cut them.
+--
+-- Definitions
+--   toSide              from a walk's start to a line
+--   strip, stripOf      the steps of one direction between two lines, by the sign of its walk
+--   meet, span          the steps of both directions at once, and so inside a cell
+--   toMiddle            the step at which a direction crosses the middle between its sides
+--   cutsAt, cuts        the first step, both middles in their order, the last step
+use mathlib.Core.Bool.{cond}
+use Prim.Native.Nat.{zero, suc}
+use lib.IntN.{ℤ, pos, negsuc, negℤ, _+ℤ_, _-ℤ_, _*ℤ_}
+use lib.Signed.{ltZ}
+use Rattle.integers.specs.MinMax.{min, max}
+use Rattle.integers.specs.Clamp.{clamp}
+use Rattle.edge.specs.declared.Axis.{Axis}
+use Rattle.edge.specs.declared.Cell.{Cell}
+use Rattle.edge.specs.declared.Span.{Span}
+use Rattle.edge.specs.declared.Samples.{Samples}
+
+-- `scale` times over, which is the number of steps to it, or minus that
+abbrev pub toSide : Axis → ℤ → ℤ
+toSide a side = a .scale *ℤ (side -ℤ a .start)
+
+-- The walk has moved by `sign × t` after t steps, and is between the lines from `near` to `far`, both measured from its start. Where it stands still it
+-- is between them for all n steps, or for none.
+unfoldable pub strip : ℤ → ℤ → ℤ → ℤ → Span
+strip (pos zero) near far n = cond (ltZ near (pos 0)) (cond (ltZ (pos 0) far) (record { first = pos 0; last = n }) (record { first = n; last = pos 0 })) (record { first = n; last = pos 0 })
+strip (pos (suc s)) near far n = record { first = near; last = far }
+strip (negsuc s) near far n = record { first = negℤ far; last = negℤ near }
+
+abbrev pub stripOf : Axis → ℤ → ℤ → ℤ → Span
+stripOf a side w n = strip (a .sign) (toSide a side) (toSide a side +ℤ a .scale *ℤ w) n
+
+-- the steps from 0 to n in both spans
+abbrev pub meet : Span → Span → ℤ → Span
+meet r s n = record { first = max (pos 0) (max (r .first) (s .first)); last = min n (min (r .last) (s .last)) }
+
+abbrev pub span : Axis → Axis → Cell → ℤ → Span
+span a b c n = meet (stripOf a (c .left) (c .width) n) (stripOf b (c .top) (c .width) n) n
+
+-- any step, where it stands still
+abbrev pub toMiddle : Axis → ℤ → ℤ → ℤ
+toMiddle a side half = a .sign *ℤ (toSide a side +ℤ a .scale *ℤ half)
+
+-- from the first step to the last, cut at the steps x and y where these lie between
+abbrev pub cutsAt : ℤ → ℤ → ℤ → ℤ → Samples
+cutsAt p q x y = record { first = p; second = min (clamp x p q) (clamp y p q); third = max (clamp x p q) (clamp y p q); fourth = q }
+
+abbrev pub cuts : Axis → Axis → Cell → ℤ → ℤ → Samples
+cuts a b c half n = cutsAt (span a b c n .first) (span a b c n .last) (toMiddle a (c .left) half) (toMiddle b (c .top) half)

@@ -1,0 +1,23 @@
+-- What other crates may cite of the integrals, one law a file.
+
+-- more and shorter steps change neither the integrals nor what lies inside: the sums are the integrals
+pub mod Refinement
+pub mod InsideRefinement
+-- 4 × area(quarter) = area ± h ± v ± d, and terms of the end points
+pub mod Quarter
+-- the area of an edge on the tile is its root term, and terms of the end points
+pub mod WholeTile
+-- how large the integrals, the rounded details and the numerators are
+pub mod Bounds
+-- no part strictly inside: no details, here and in each cell inside
+pub mod Zero
+-- level, upright and 45-degree edges: whole values
+pub mod StraightEdges
+-- the other way along an edge: opposite values
+pub mod Reversal
+-- the sum over at most three pieces
+pub mod ClosedForm
+-- the walk that the code hands down comes inside where its edge does
+pub mod WalkInside
+-- the slanted edges of 01's letters F and G
+pub mod Letters

@@ -1,0 +1,16 @@
+-- Steps on the way to the laws.
+
+-- records with equal fields
+pub mod Records
+-- signs and extents, a step of a walk, both ends
+pub mod Ends
+-- a step between two sides, or outside of them
+pub mod Steps
+-- an integral, run by run
+pub mod Runs
+-- the steps between two sides are consecutive
+pub mod Crossings
+-- linear up to the middle, and from it on
+pub mod OneDirection
+-- how large a sum along a walk is
+pub mod SumBounds
