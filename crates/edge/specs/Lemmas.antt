@@ -2,7 +2,7 @@
 
 -- records with equal fields
 pub mod Records
--- signs and extents, a step of a walk, both ends
+-- signs and extents, both ends of a walk
 pub mod Ends
 -- a step between two sides, or outside of them
 pub mod Steps

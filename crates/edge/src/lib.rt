@@ -1,3 +1,25 @@
+// What one edge adds to one cell's three Haar details, exactly, and rounded.
+//
+// An edge runs from (x0, y0) to (x1, y1); a cell is a square with its left and top side and its width. In the cell, h is twice the integral over dy of
+// the distance from x to the nearer upright side, v is minus the same with x and y exchanged, and d is h with the sign turned in the lower half. The
+// distance to the nearer side is a tent: 0 at both sides, highest in the middle, 0 outside. `specs/` says this as sums; here is how it is worked out.
+//
+// The walk. In N = |dx| × |dy| equal steps, |dy| × x and |dx| × y move by at most 1 a step. So every side and middle of a cell is crossed at a whole
+// step t, found by one product and no division, and each value is a whole number over N. A level, upright or 45-degree edge is walked in unit steps:
+// its values are whole, and nothing is divided at all. The walk is worked out once for an edge and passed by value from cell to cell.
+//
+// The cuts. The steps inside a cell are consecutive, from the later of two entries to the earlier of two exits. The crossings of the two middles cut
+// them into at most three pieces. On a piece each tent rises or falls steadily, as x and y do,
+//
+//       middle      ___/\___              first .. second .. third .. last
+//       sides      /        \             cut where x, or y, is in the middle of the cell
+//
+// so twice the integral of f dg over a piece is (f at its start + f at its end) × (g at its end − g at its start). For h, f is the tent of x and g is y;
+// for v, the tent of y and x; for d, both tents.
+//
+// An edge that lies in one quarter of the cell is one such piece from end to end, with neither walk nor division. No step is visited, no number passes
+// 64 bits (`specs/Room.antt`), and nothing is rounded but the three values, each on its own.
+
 ghost use mathlib.Core.Path.{_≡_};
 ghost use lib.IntN.{pos, _+ℤ_, _-ℤ_, _*ℤ_};
 ghost use lib.Signed.{_≤ℤ_, _<ℤ_};
@@ -15,6 +37,7 @@ ghost use Rattle.edge.specs.Room.{coordinateLimit, extentLimit, crossing
 ghost use Rattle.edge.specs.Code.{IsWalk, Decides, Shows, SameHalf, SameQuarter, SamplesClosed, beyondAt, nearAt, pieceSum, numeratorsAt, roundedBy};
 use integers::div_round_half_away;
 
+// From (x0, y0) to (x1, y1).
 pub struct Edge {
     pub x0: i64,
     pub y0: i64,
@@ -28,19 +51,21 @@ pub struct Cell {
     pub width: i64,
 }
 
+// The three detail coefficients of a cell: left less right, upper less lower, upper left and lower right less the others.
 pub struct Details {
     pub h: i64,
     pub v: i64,
     pub d: i64,
 }
 
-// One direction of a walk.
+// One direction of a walk: the coordinate, `scale` times over, starts from `scale × start` and moves by `sign` at each step.
 pub struct Axis {
     pub scale: i64,
     pub start: i64,
     pub sign: i64,
 }
 
+// An edge and its walk in `steps` steps. The sums along it are `divisor` times the values.
 pub struct Walk {
     pub edge: Edge,
     pub x: Axis,
@@ -49,7 +74,7 @@ pub struct Walk {
     pub divisor: i64,
 }
 
-// The steps t with first <= t < last.
+// The steps t with first <= t < last: none, where first is not below last.
 pub struct Span {
     pub first: i64,
     pub last: i64,
@@ -63,6 +88,8 @@ pub struct Samples {
     pub fourth: i64,
 }
 
+// ---- small numbers
+
 fn low(a: i64, b: i64) -> i64
     ensures { λ r. ⌜ r ≡ min a b ⌝ }
 {
@@ -75,12 +102,14 @@ fn high(a: i64, b: i64) -> i64
     if a <= b { b } else { a }
 }
 
+// v, held between lo and hi.
 fn hold(v: i64, lo: i64, hi: i64) -> i64
     ensures { λ r. ⌜ r ≡ clamp v lo hi ⌝ }
 {
     high(lo, low(v, hi))
 }
 
+// The larger of |d| and 1.
 fn extent(d: i64) -> i64
     requires { ⌜ Within (pos extentLimit) d ⌝ }
     ensures { λ r. ⌜ r ≡ pos (extentOf d) ⌝ }
@@ -108,6 +137,7 @@ fn sign(d: i64) -> i64
 
 // ---- the walk
 
+// In unit steps if the edge is level, upright or at 45 degrees: then x and y are whole after each.
 fn walk_along(e: Edge, ax: i64, ay: i64, sx: i64, sy: i64) -> Walk
     requires { ⌜ Measured e × (ax ≡ pos (axOf e)) × (ay ≡ pos (ayOf e)) × (sx ≡ signOf (dx e)) × (sy ≡ signOf (dy e)) ⌝ }
     ensures { λ w. ⌜ (w .edge ≡ e) × IsWalk w ⌝ }
@@ -148,6 +178,7 @@ fn walk_along(e: Edge, ax: i64, ay: i64, sx: i64, sy: i64) -> Walk
     }
 }
 
+// The walk of an edge, worked out once.
 pub fn walk_of(e: Edge) -> Walk
     requires { ⌜ Measured e ⌝ }
     ensures { λ w. ⌜ (w .edge ≡ e) × IsWalk w ⌝ }
@@ -159,6 +190,8 @@ pub fn walk_of(e: Edge) -> Walk
 
 // ---- the steps inside a cell
 
+// The steps of one direction between two lines, which lie `near` and `far` from its start. Standing still it is between them always or never; on a
+// line is not between.
 fn strip(s: i64, near: i64, far: i64, n: i64) -> Span
     requires { ⌜ Within (pos crossingLimit) near × Within (pos crossingLimit) far ⌝ }
     ensures { λ r. ⌜ r ≡ stripSteps s near far n ⌝ }
@@ -182,6 +215,7 @@ fn strip(s: i64, near: i64, far: i64, n: i64) -> Span
     }
 }
 
+// The steps of one direction between a side and the one `width` on.
 fn strip_of(a: Axis, side: i64, width: i64, n: i64) -> Span
     requires { ⌜ AxisRoom a side width ⌝ }
     ensures { λ r. ⌜ r ≡ stripOf a side width n ⌝ }
@@ -190,6 +224,7 @@ fn strip_of(a: Axis, side: i64, width: i64, n: i64) -> Span
     strip(a.sign, near, near + a.scale * width, n)
 }
 
+// The steps from 0 to n that are in both.
 fn meet(r: Span, s: Span, n: i64) -> Span
     ensures { λ m. ⌜ m ≡ meetOf r s n ⌝ }
 {
@@ -199,7 +234,7 @@ fn meet(r: Span, s: Span, n: i64) -> Span
     }
 }
 
-// The steps of the walk that lie strictly inside the cell.
+// The steps of the walk that lie strictly inside the cell. For a caller that asks both whether there are any and what they add.
 pub fn span_in(w: Walk, c: Cell) -> Span
     requires { ⌜ IsWalk w × Room (w .edge) c ⌝ }
     ensures { λ s. ⌜ s ≡ spanOf (w .x) (w .y) c (w .steps) ⌝ }
@@ -212,7 +247,8 @@ pub fn span_in(w: Walk, c: Cell) -> Span
     )
 }
 
-// Does some part of the edge lie strictly inside the cell?
+// Does some part of the edge lie strictly inside the cell? If not, its details are 0 here and in every cell inside this one
+// (`specs/Laws/Zero.antt`). An edge that only touches a corner, or runs along a side, does not.
 pub fn comes_inside(w: Walk, c: Cell) -> bool
     requires { ⌜ IsWalk w × Room (w .edge) c ⌝ }
     ensures { λ b. ⌜ Decides b (Inside (w .edge) c) ⌝ }
@@ -223,6 +259,7 @@ pub fn comes_inside(w: Walk, c: Cell) -> bool
 
 // ---- the closed form
 
+// The step at which a direction crosses the middle between its sides.
 fn middle_of(a: Axis, side: i64, half: i64) -> i64
     requires { ⌜ AxisRoom a side half ⌝ }
     ensures { λ r. ⌜ r ≡ toMiddle a side half ⌝ }
@@ -230,6 +267,7 @@ fn middle_of(a: Axis, side: i64, half: i64) -> i64
     a.sign * (a.scale * (side - a.start) + a.scale * half)
 }
 
+// From the first step to the last, cut at x and y.
 fn cuts_of(s: Span, x: i64, y: i64) -> Samples
     ensures { λ k. ⌜ k ≡ cutsAt (s .first) (s .last) x y ⌝ }
 {
@@ -243,6 +281,7 @@ fn cuts_of(s: Span, x: i64, y: i64) -> Samples
     }
 }
 
+// How far past a side a direction is after t steps, k times over.
 fn beyond(k: i64, x: i64, s: i64, side: i64, t: i64) -> i64
     requires { ⌜ (pos 0 ≤ℤ k) × (k ≤ℤ pos extentLimit) × Within (pos coordinateLimit) x × Within (pos 1) s × Within (pos coordinateLimit) side × Within (pos crossingLimit) t ⌝ }
     ensures { λ r. ⌜ r ≡ k *ℤ (x -ℤ side) +ℤ s *ℤ t ⌝ }
@@ -262,6 +301,7 @@ fn beyond_at(a: Axis, side: i64, width: i64, k: Samples) -> Samples
     }
 }
 
+// From u, between 0 and m, to the nearer of the two.
 fn nearer(m: i64, u: i64) -> i64
     requires { ⌜ Within (pos widthTimesExtentLimit) m × Within (pos widthTimesExtentLimit) u ⌝ }
     ensures { λ r. ⌜ r ≡ min u (m -ℤ u) ⌝ }
@@ -281,6 +321,7 @@ fn near_at(m: i64, u: Samples) -> Samples
     }
 }
 
+// What a piece adds to twice the integral of f dg, f and g being linear on it.
 fn piece(f0: i64, f1: i64, g0: i64, g1: i64) -> i64
     requires { ⌜ Within (pos widthTimesExtentLimit) f0 × Within (pos widthTimesExtentLimit) f1 × Within (pos widthTimesExtentLimit) g0 × Within (pos widthTimesExtentLimit) g1 ⌝ }
     ensures { λ r. ⌜ r ≡ (f0 +ℤ f1) *ℤ (g1 -ℤ g0) ⌝ }
@@ -298,6 +339,7 @@ fn pieces(f: Samples, g: Samples) -> i64
     first + second + third
 }
 
+// h, v and d, `divisor` times over.
 fn numerators(a: Axis, b: Axis, c: Cell, k: Samples) -> Details
     requires { ⌜ AxisRoom a (c .left) (c .width) × AxisRoom b (c .top) (c .width) × SamplesWithin (pos crossingLimit) k × SamplesClosed a (c .left) (c .width) k × SamplesClosed b (c .top) (c .width) k ⌝ }
     ensures { λ m. ⌜ m ≡ numeratorsAt a b c k ⌝ }
@@ -331,6 +373,7 @@ fn round_all(m: Details, n: i64) -> Details
 
 // ---- an edge wholly inside one quarter: no division
 
+// Are p and q both in the first half, or both in the second?
 fn same_half(p: i64, q: i64, side: i64, half: i64) -> bool
     requires { ⌜ Within (pos coordinateLimit) side × (pos 0 ≤ℤ half) × (half ≤ℤ pos coordinateLimit) ⌝ }
     ensures { λ b. ⌜ Shows b (SameHalf side half p q) ⌝ }
@@ -352,6 +395,7 @@ fn same_quarter(e: Edge, c: Cell, half: i64) -> bool
     same_half(e.x0, e.x1, c.left, half) && same_half(e.y0, e.y1, c.top, half)
 }
 
+// Along such an edge nothing bends, and what is divided by N was multiplied by it.
 fn quarter_details(e: Edge, c: Cell, half: i64) -> Details
     requires { ⌜ Room e c × (c .width ≡ half +ℤ half) × (pos 0 ≤ℤ half) × SameQuarter e c half ⌝ }
     ensures { λ r. ⌜ r ≡ detailsOf e c ⌝ }
@@ -384,7 +428,7 @@ fn cut_details(w: Walk, c: Cell, half: i64, s: Span) -> Details
     round_all(numerators(w.x, w.y, c, k), w.divisor)
 }
 
-// The rounded details of the walk's edge in the cell, given the steps inside.
+// The rounded details of the walk's edge in the cell, given the steps inside, as `span_in` answers them.
 pub fn details_over(w: Walk, c: Cell, s: Span) -> Details
     requires { ⌜ IsWalk w × Room (w .edge) c × (s ≡ spanOf (w .x) (w .y) c (w .steps)) ⌝ }
     ensures { λ r. ⌜ r ≡ detailsOf (w .edge) c ⌝ }

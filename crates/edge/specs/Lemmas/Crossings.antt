@@ -39,9 +39,6 @@ low-of-odd a b h = go (≤ℤ-or-<ℤ a b)
     go (inr k) = lin⊥ (a ∷ b ∷ []) (lt h & lt k) (search linear depth 40) tt
 
 module _ (k x side w n : ℤ) where
-  axis : ℤ → Axis
-  axis s = record { scale = k; start = x; sign = s }
-
   abbrev near : ℤ
   near = k *ℤ (side -ℤ x)
 

@@ -1,4 +1,4 @@
--- Laws of the walk: signs and extents, a step, and both ends.
+-- The walk: signs and extents, and both ends.
 --
 -- Main results
 --   sign-extent                     sign d × extent d = d
@@ -9,7 +9,6 @@
 --   Direction, direction            a sign is 1, 0 or −1
 --   direction-within                and so at most one either way
 --   Steady, x-steady, y-steady      a direction whose scale is not negative and whose sign is one of these; an edge's two are
---   beyond-next                     a step moves the walk by its sign
 --   beyond-start, x-end, y-end      the walk goes from one end point to the other
 --   past-scale, near-scale          at a point the scale comes out
 use mathlib.Core.Path.{_≡_, refl, _∙_, ap}
@@ -101,10 +100,7 @@ x-steady e = record { scaled = nonneg (ay e); signed = direction (dx e) }
 pub y-steady : (e : Edge) → Steady (yAxis e)
 y-steady e = record { scaled = nonneg (ax e); signed = direction (dy e) }
 
--- ---- a step, and both ends
-pub beyond-next : (a : Axis) (line t : ℤ) → beyond a line (t +ℤ pos 1) ≡ beyond a line t +ℤ a .sign
-beyond-next a line t = ring (a .scale ∷ a .start ∷ a .sign ∷ line ∷ t ∷ []) (search read depth 40) tt
-
+-- ---- both ends
 pub beyond-start : (a : Axis) (line : ℤ) → beyond a line (pos 0) ≡ a .scale *ℤ (a .start -ℤ line)
 beyond-start a line = ring (a .scale ∷ a .start ∷ a .sign ∷ line ∷ []) (search read depth 40) tt
 
