@@ -22,9 +22,9 @@ use Rattle.integers.specs.MinMax.{min, min-≤ˡ, min-greatest}
 use Rattle.edge.specs.declared.Axis.{Axis}
 use Rattle.edge.specs.declared.Samples.{Samples}
 use Rattle.edge.specs.Walk.{beyond}
-use Rattle.edge.specs.Room.{extentLimit, AxisRoom, SamplesWithin}
+use Rattle.edge.specs.Room.{extentLimit}
+use Rattle.edge.specs.Code.{AxisRoom, SamplesWithin, Closed, SamplesClosed, beyondAt, nearAt}
 use Rattle.edge.specs.Cuts.{toSide}
-use Rattle.edge.specs.Code.{Closed, SamplesClosed, beyondAt, nearAt}
 use Rattle.edge.proofs.Bits.{back, back-is}
 use Rattle.edge.proofs.Held.{Held, held-add, held-mul, held-back}
 use Rattle.edge.proofs.Sizes.{difference}

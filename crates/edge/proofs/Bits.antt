@@ -6,7 +6,8 @@
 --   result-is              a call's result, read back
 --   back-is                a number within a bound, read back
 --   within-back            and the bound of what is read back
-use mathlib.Core.Path.{_≡_, _∙_, subst⁻¹}
+--   same-bits              numbers with the same bits are the same
+use mathlib.Core.Path.{_≡_, sym, _∙_, ap, subst⁻¹}
 use mathlib.Core.List.{[], _∷_}
 use Prim.Native.Nat.{ℕ, _<_, _^_}
 use lib.Dec.{T, leb, leb→le}
@@ -40,3 +41,6 @@ result-is k e = toZ-ofZ (record { sfits = k }) ∙ e
 -- and so does a field
 pub field-is : (z : ℤ) → mag z < 2 ^ 63 → toZ w64 (ofZ w64 z) ≡ z
 field-is z k = toZ-ofZ (record { sfits = k })
+
+pub same-bits : {y z : ℤ} → SFits w64 y → SFits w64 z → ofZ w64 y ≡ ofZ w64 z → y ≡ z
+same-bits f g e = sym (toZ-ofZ f) ∙ ap (toZ w64) e ∙ toZ-ofZ g

@@ -28,15 +28,13 @@ use Rattle.edge.specs.Walk.{steps, xAxis, yAxis, beyond, past, near}
 use Rattle.edge.specs.Integrals.{along, hNum, vNum, dNum}
 use Rattle.edge.specs.Rounded.{details}
 use Rattle.edge.specs.Lemmas.Ends.{rounded-whole, Steady, x-steady, y-steady}
-use Rattle.edge.specs.Code.{Closed}
+use Rattle.edge.specs.Code.{Closed, SamplesWithin, SamplesClosed, beyondAt, nearAt, pieceSum, numeratorsAt, roundedBy}
 use Rattle.edge.specs.Lemmas.Runs.{Ordered}
-use Rattle.edge.specs.Cuts.{span}
-use Rattle.edge.specs.Cuts.{cuts}
+use Rattle.edge.specs.Cuts.{span, cuts}
 use Rattle.edge.specs.Laws.ClosedForm.{cuts-closed, ordered, near-past-closed, past-near-closed, near-near-closed}
-use Rattle.edge.specs.Straight.{Straight, unitX, unitY, unitSteps}
-use Rattle.edge.specs.Laws.StraightEdges.{h-straight, v-straight, d-straight}
-use Rattle.edge.specs.Room.{SamplesWithin}
-use Rattle.edge.specs.Code.{SamplesClosed, IsWalk, fine, unit, fineWalk, unitWalk, beyondAt, nearAt, pieceSum, numeratorsAt, roundedBy}
+use Rattle.edge.specs.Octilinear.{Octilinear, unitX, unitY, unitSteps}
+use Rattle.edge.specs.Laws.OctilinearEdges.{h-octilinear, v-octilinear, d-octilinear}
+use Rattle.edge.specs.WalkOf.{IsWalk, fine, unit, fineWalk, unitWalk}
 use Rattle.edge.specs.Laws.WalkInside.{unit-x-steady, unit-y-steady}
 use Rattle.edge.specs.Lemmas.Records.{samples-eq, details-eq}
 
@@ -120,12 +118,12 @@ module _ (e : Edge) (c : Cell) (half : ℤ) (even : c .width ≡ half +ℤ half)
       by : {x y : ℤ} → x ≡ y → roundHalfAway x (steps e) ≡ roundHalfAway y (steps e)
       by p = ap (λ z. roundHalfAway z (steps e)) p
 
-  unit-answers : Straight e → Answers e c half (unitWalk e)
+  unit-answers : Octilinear e → Answers e c half (unitWalk e)
   unfolding details
   unit-answers s inside =
-      details-eq (by (h-at (unitX e) (unitY e) (unit-x-steady e) (unit-y-steady e) c half even hh (unitSteps e) inside) (h-straight s c even hh))
-      (by (v-at (unitX e) (unitY e) (unit-x-steady e) (unit-y-steady e) c half even hh (unitSteps e) inside) (v-straight s c even hh))
-      (by (d-at (unitX e) (unitY e) (unit-x-steady e) (unit-y-steady e) c half even hh (unitSteps e) inside) (d-straight s c even hh))
+      details-eq (by (h-at (unitX e) (unitY e) (unit-x-steady e) (unit-y-steady e) c half even hh (unitSteps e) inside) (h-octilinear s c even hh))
+      (by (v-at (unitX e) (unitY e) (unit-x-steady e) (unit-y-steady e) c half even hh (unitSteps e) inside) (v-octilinear s c even hh))
+      (by (d-at (unitX e) (unitY e) (unit-x-steady e) (unit-y-steady e) c half even hh (unitSteps e) inside) (d-octilinear s c even hh))
     where
       by : {x q m : ℤ} → x ≡ q → m ≡ q *ℤ pos (steps e) → roundHalfAway x 1 ≡ roundHalfAway m (steps e)
       by {x} {q} p r = whole x ∙ p ∙ sym (rounded-whole e q r)
@@ -133,7 +131,7 @@ module _ (e : Edge) (c : Cell) (half : ℤ) (even : c .width ≡ half +ℤ half)
 pub cut-details : {w : Walk} → IsWalk w → (c : Cell) (half : ℤ) → c .width ≡ half +ℤ half → pos 0 ≤ℤ half
     → span (w .x) (w .y) c (w .steps) .first <ℤ span (w .x) (w .y) c (w .steps) .last
     → roundedBy (w .divisor) (numeratorsAt (w .x) (w .y) c (cuts (w .x) (w .y) c half (w .steps))) ≡ details (w .edge) c
-cut-details {w} (fine e) c half even hh = subst⁻¹ (Answers (w .edge) c half) e (fine-answers (w .edge) c half even hh)
+cut-details {w} (fine o e) c half even hh = subst⁻¹ (Answers (w .edge) c half) e (fine-answers (w .edge) c half even hh)
 cut-details {w} (unit s e) c half even hh = subst⁻¹ (Answers (w .edge) c half) e (unit-answers (w .edge) c half even hh s)
 
 -- and at its cuts it is in the closed cell
@@ -144,7 +142,7 @@ pub record InCell (c : Cell) (half : ℤ) (z : Walk) : Type 0 where
 
 pub cuts-in-cell : {w : Walk} → IsWalk w → (c : Cell) (half : ℤ) → c .width ≡ half +ℤ half → pos 0 ≤ℤ half
     → span (w .x) (w .y) c (w .steps) .first <ℤ span (w .x) (w .y) c (w .steps) .last → InCell c half w
-cuts-in-cell {w} (fine e) c half even hh =
+cuts-in-cell {w} (fine o e) c half even hh =
     subst⁻¹ (λ z. span (z .x) (z .y) c (z .steps) .first <ℤ span (z .x) (z .y) c (z .steps) .last → InCell c half z) e
     (λ inside. record {
       x = x-in-cell (xAxis (w .edge)) (yAxis (w .edge)) (x-steady (w .edge)) (y-steady (w .edge)) c half even hh (steps (w .edge)) inside;

@@ -28,7 +28,7 @@ use Rattle.edge.specs.Integrals.{along, hNum, vNum, dNum}
 use Rattle.edge.specs.Rounded.{details}
 use Rattle.edge.specs.Lemmas.Runs.{piece, LinearOn, upto, upto-zero, upto-all, linear-run}
 use Rattle.edge.specs.Lemmas.OneDirection.{OneHalf, before, behind, past-linear, near-linear}
-use Rattle.edge.specs.Laws.WholeTile.{OnSpan, OnCell, stays-between}
+use Rattle.edge.specs.Laws.WholeTile.{OnRange, OnCell, stays-between}
 use Rattle.edge.specs.Code.{SameHalf, first, second, SameQuarter}
 
 -- from p, between two sides w apart, to the nearer of them
@@ -48,16 +48,16 @@ quarterD e c =
 
 -- ---- two points in one half lie between the sides
 module _ {side half w : ℤ} (m : w ≡ half +ℤ half) (h : pos 0 ≤ℤ half) where
-  in-first : (p : ℤ) → side ≤ℤ p → p ≤ℤ (side +ℤ half) → OnSpan side w p
+  in-first : (p : ℤ) → side ≤ℤ p → p ≤ℤ (side +ℤ half) → OnRange side w p
   in-first p i j = record { low = i; high = lin≤ (p ∷ side ∷ half ∷ w ∷ []) (le j & le h & eq m) (search linear depth 40) tt }
 
-  in-second : (p : ℤ) → (side +ℤ half) ≤ℤ p → p ≤ℤ (side +ℤ half +ℤ half) → OnSpan side w p
+  in-second : (p : ℤ) → (side +ℤ half) ≤ℤ p → p ≤ℤ (side +ℤ half +ℤ half) → OnRange side w p
   in-second p i j = record {
     low = lin≤ (p ∷ side ∷ half ∷ []) (le i & le h) (search linear depth 40) tt;
     high = lin≤ (p ∷ side ∷ half ∷ w ∷ []) (le j & eq m) (search linear depth 40) tt;
   }
 
-  spans : (p q : ℤ) → SameHalf side half p q → OnSpan side w p × OnSpan side w q
+  spans : (p q : ℤ) → SameHalf side half p q → OnRange side w p × OnRange side w q
   spans p q (first p₀ p₁ q₀ q₁) = (in-first p p₀ p₁, in-first q q₀ q₁)
   spans p q (second p₀ p₁ q₀ q₁) = (in-second p p₀ p₁, in-second q q₀ q₁)
 
@@ -100,16 +100,16 @@ unbent a side half q {w} {n} m h g e s =
     w≥0 : pos 0 ≤ℤ w
     w≥0 = lin≤ (w ∷ half ∷ []) (eq m & le h) (search linear depth 40) tt
 
-    low : (p : ℤ) → OnSpan side w p → pos 0 ≤ℤ (p -ℤ side)
+    low : (p : ℤ) → OnRange side w p → pos 0 ≤ℤ (p -ℤ side)
     low p o = lin≤ (p ∷ side ∷ []) (le (o .low)) (search linear depth 40) tt
 
-    high : (p : ℤ) → OnSpan side w p → (p -ℤ side) ≤ℤ w
+    high : (p : ℤ) → OnRange side w p → (p -ℤ side) ≤ℤ w
     high p o = lin≤ (p ∷ side ∷ w ∷ []) (le (o .high)) (search linear depth 40) tt
 
-    past-at : (t p : ℤ) → OnSpan side w p → beyond a side t ≡ a .scale *ℤ (p -ℤ side) → past a side w t ≡ a .scale *ℤ (p -ℤ side)
+    past-at : (t p : ℤ) → OnRange side w p → beyond a side t ≡ a .scale *ℤ (p -ℤ side) → past a side w t ≡ a .scale *ℤ (p -ℤ side)
     past-at t p o d = past-scale a side w t p g w≥0 d ∙ ap (λ z. a .scale *ℤ z) (clamp-inside (low p o) (high p o))
 
-    near-at : (t p : ℤ) → OnSpan side w p → beyond a side t ≡ a .scale *ℤ (p -ℤ side) → near a side w t ≡ a .scale *ℤ toNearer side w p
+    near-at : (t p : ℤ) → OnRange side w p → beyond a side t ≡ a .scale *ℤ (p -ℤ side) → near a side w t ≡ a .scale *ℤ toNearer side w p
     near-at t p o d = near-scale a side w t p g w≥0 d ∙ ap (λ z. a .scale *ℤ z) (tent-inside (low p o) (high p o))
 
 one-piece : {f g : ℤ → ℤ} {n : ℕ} {f₀ f₁ g₀ g₁ : ℤ} → Ramp f (pos n) f₀ f₁ → Ramp g (pos n) g₀ g₁ → along f g n ≡ (f₀ +ℤ f₁) *ℤ (g₁ -ℤ g₀)

@@ -8,8 +8,7 @@ use lib.IntN.{ℤ, pos, _+ℤ_, _-ℤ_, _*ℤ_}
 use Rattle.integers.specs.Units.{widthTimesExtentLimit, numeratorLimit}
 use Rattle.integers.specs.Within.{Within, within-add, within-sub, within-mul}
 use Rattle.edge.specs.declared.Samples.{Samples}
-use Rattle.edge.specs.Room.{SamplesWithin}
-use Rattle.edge.specs.Code.{pieceSum}
+use Rattle.edge.specs.Code.{SamplesWithin, pieceSum}
 
 abbrev pub pieceLimit : ℕ
 pieceLimit = 2 * numeratorLimit

@@ -25,9 +25,10 @@ use Rattle.edge.specs.declared.Edge.{Edge}
 use Rattle.edge.specs.declared.Walk.{Walk}
 use Rattle.edge.specs.Walk.{extent, sign, dx, dy, ax, ay, steps, xAxis, yAxis}
 use Rattle.edge.specs.Lemmas.Ends.{steps-pos, direction, direction-within}
-use Rattle.edge.specs.Straight.{unitSteps}
-use Rattle.edge.specs.Room.{coordinateLimit, extentLimit, crossingLimit, Measured, Room, AxisRoom}
-use Rattle.edge.specs.Code.{IsWalk, fine, unit}
+use Rattle.edge.specs.Octilinear.{unitSteps}
+use Rattle.edge.specs.Room.{coordinateLimit, extentLimit, crossingLimit, Measured, Room}
+use Rattle.edge.specs.Code.{AxisRoom}
+use Rattle.edge.specs.WalkOf.{IsWalk, fine, unit}
 use Rattle.edge.proofs.Bits.{back}
 use Rattle.edge.proofs.Sizes.{difference, extent-within, width≥0, width-high}
 
@@ -71,11 +72,11 @@ module _ {e : Edge} {c : Cell} (r : Room e c) where
   }
 
 pub x-room : {w : Walk} {c : Cell} → IsWalk w → Room (w .edge) c → AxisRoom (w .x) (c .left) (c .width)
-x-room {w} {c} (fine e) r = subst⁻¹ (λ (z : Walk). AxisRoom (z .x) (c .left) (c .width)) e (fine-x r)
+x-room {w} {c} (fine o e) r = subst⁻¹ (λ (z : Walk). AxisRoom (z .x) (c .left) (c .width)) e (fine-x r)
 x-room {w} {c} (unit s e) r = subst⁻¹ (λ (z : Walk). AxisRoom (z .x) (c .left) (c .width)) e (unit-room (dx (w .edge)) (r .edge .x0) (r .left) (width≥0 r) (width-high r))
 
 pub y-room : {w : Walk} {c : Cell} → IsWalk w → Room (w .edge) c → AxisRoom (w .y) (c .top) (c .width)
-y-room {w} {c} (fine e) r = subst⁻¹ (λ (z : Walk). AxisRoom (z .y) (c .top) (c .width)) e (fine-y r)
+y-room {w} {c} (fine o e) r = subst⁻¹ (λ (z : Walk). AxisRoom (z .y) (c .top) (c .width)) e (fine-y r)
 y-room {w} {c} (unit s e) r = subst⁻¹ (λ (z : Walk). AxisRoom (z .y) (c .top) (c .width)) e (unit-room (dy (w .edge)) (r .edge .y0) (r .top) (width≥0 r) (width-high r))
 
 pub half-room : {a : Axis} {side w half : ℤ} → w ≡ half +ℤ half → pos 0 ≤ℤ half → AxisRoom a side w → AxisRoom a side half
@@ -95,7 +96,7 @@ back-room {a} {side} {w} f g r = subst⁻¹ (λ z. AxisRoom a z (back w)) (toZ-o
 
 -- ---- the steps
 pub steps-within : {w : Walk} → IsWalk w → Measured (w .edge) → Within (pos crossingLimit) (w .steps)
-steps-within {w} (fine e) m =
+steps-within {w} (fine o e) m =
     subst⁻¹ (λ (z : Walk). Within (pos crossingLimit) (z .steps)) e
     (within-le (lin≤ [] none! (search linear depth 40) tt) (within-mul (extent-range (m .x0) (m .x1)) (extent-range (m .y0) (m .y1))))
 steps-within {w} (unit s e) m =
@@ -104,12 +105,12 @@ steps-within {w} (unit s e) m =
     (within-self (nonneg (unitSteps (w .edge)))))
 
 pub divisor-pos : {w : Walk} → IsWalk w → pos 0 <ℤ w .divisor
-divisor-pos {w} (fine e) = subst⁻¹ (λ (z : Walk). pos 0 <ℤ z .divisor) e (positive (steps-pos (w .edge)))
+divisor-pos {w} (fine o e) = subst⁻¹ (λ (z : Walk). pos 0 <ℤ z .divisor) e (positive (steps-pos (w .edge)))
 divisor-pos {w} (unit s e) = subst⁻¹ (λ (z : Walk). pos 0 <ℤ z .divisor) e (positive {n = 1} (omega arith))
 
 pub divisor-within : {w : Walk} → IsWalk w → Measured (w .edge) → Within (pos crossingLimit) (w .divisor)
-divisor-within {w} (fine e) m =
+divisor-within {w} (fine o e) m =
     let same : w .divisor ≡ w .steps = ap (λ (z : Walk). z .divisor) e ∙ sym (ap (λ (z : Walk). z .steps) e) in
-    subst⁻¹ (Within (pos crossingLimit)) same (steps-within (fine e) m)
+    subst⁻¹ (Within (pos crossingLimit)) same (steps-within (fine o e) m)
 divisor-within {w} (unit s e) m =
     subst⁻¹ (λ (z : Walk). Within (pos crossingLimit) (z .divisor)) e (within-le (lin≤ [] none! (search linear depth 40) tt) (within-self (nonneg 1)))

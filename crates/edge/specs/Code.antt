@@ -1,16 +1,18 @@
--- What the code works with: a walk worked out once, numbers at the four cuts, and what the functions below the public ones answer.
+-- What the functions below the public ones ask and answer.
 --
 -- Definitions
---   fineWalk, unitWalk, IsWalk                           the walk of an edge, as the code hands it down
---   Decides, Shows                                       what a test's answer says
---   SameHalf, SameQuarter                                both ends of an edge lie in one half, in one quarter
+--   Shows, SameHalf, SameQuarter                         both ends of an edge lie in one half, in one quarter
 --   Closed, SamplesClosed                                a direction is between its sides, or on them
---   beyondAt, nearAt, pieceSum, numeratorsAt             the closed form at the four cuts
+--   beyondAt, nearAt, pieceSum,
+--   numeratorsOf, numeratorsAt                           the closed form at the four cuts
 --   roundedBy                                            three numerators, rounded
+--   AxisRoom, SamplesWithin                              the ranges that they ask for
 use mathlib.Core.Path.{_≡_}
-use mathlib.Core.Bool.{Bool, true, false}
+use mathlib.Core.Bool.{Bool, true}
 use lib.IntN.{ℤ, pos, natAbs, _+ℤ_, _-ℤ_, _*ℤ_}
 use lib.Signed.{_≤ℤ_}
+use Rattle.integers.specs.Units.{widthTimesExtentLimit}
+use Rattle.integers.specs.Within.{Within}
 use Rattle.integers.specs.MinMax.{min}
 use Rattle.integers.specs.Rounding.{roundHalfAway}
 use Rattle.edge.specs.declared.Edge.{Edge}
@@ -18,29 +20,10 @@ use Rattle.edge.specs.declared.Axis.{Axis}
 use Rattle.edge.specs.declared.Cell.{Cell}
 use Rattle.edge.specs.declared.Details.{Details}
 use Rattle.edge.specs.declared.Samples.{Samples}
-use Rattle.edge.specs.declared.Walk.{Walk}
-use Rattle.edge.specs.Walk.{steps, xAxis, yAxis, beyond}
-use Rattle.edge.specs.Straight.{Straight, unitX, unitY, unitSteps}
-
--- ---- the walk
--- in the steps of the definitions, whose sums are over `steps e`
-abbrev pub fineWalk : Edge → Walk
-fineWalk e = record { edge = e; x = xAxis e; y = yAxis e; steps = pos (steps e); divisor = pos (steps e) }
-
--- in unit steps, whose sums are whole
-abbrev pub unitWalk : Edge → Walk
-unitWalk e = record { edge = e; x = unitX e; y = unitY e; steps = pos (unitSteps e); divisor = pos 1 }
-
-pub data IsWalk (w : Walk) : Type 0 where
-  fine : w ≡ fineWalk (w .edge) → IsWalk w
-  unit : Straight (w .edge) → w ≡ unitWalk (w .edge) → IsWalk w
+use Rattle.edge.specs.Walk.{beyond}
+use Rattle.edge.specs.Room.{coordinateLimit, extentLimit}
 
 -- ---- tests
--- b is the answer to the question whether P
-pub record Decides (b : Bool) (P : Type 0) : Type 0 where
-  pub yes : b ≡ true → P
-  pub no : b ≡ false → P → ⊥
-
 -- b is true only where P
 pub record Shows (b : Bool) (P : Type 0) : Type 0 where
   pub shown : b ≡ true → P
@@ -87,3 +70,19 @@ numeratorsAt a b c k = numeratorsOf (a .scale *ℤ c .width) (b .scale *ℤ c .w
 
 abbrev pub roundedBy : ℤ → Details → Details
 roundedBy n m = record { h = roundHalfAway (m .h) (natAbs n); v = roundHalfAway (m .v) (natAbs n); d = roundHalfAway (m .d) (natAbs n) }
+
+-- ---- ranges: of one direction of a walk, as `Room` is for both, and of numbers at the four cuts
+pub record AxisRoom (a : Axis) (side w : ℤ) : Type 0 where
+  pub scaled : pos 0 ≤ℤ a .scale
+  pub scale : a .scale ≤ℤ pos extentLimit
+  pub signed : Within (pos 1) (a .sign)
+  pub start : Within (pos coordinateLimit) (a .start)
+  pub line : Within (pos coordinateLimit) side
+  pub width : pos 0 ≤ℤ w
+  pub wide : (a .scale *ℤ w) ≤ℤ pos widthTimesExtentLimit
+
+pub record SamplesWithin (b : ℤ) (s : Samples) : Type 0 where
+  pub first : Within b (s .first)
+  pub second : Within b (s .second)
+  pub third : Within b (s .third)
+  pub fourth : Within b (s .fourth)

@@ -12,7 +12,7 @@ pub mod Bounds
 -- no part strictly inside: no details, here and in each cell inside
 pub mod Zero
 -- level, upright and 45-degree edges: whole values
-pub mod StraightEdges
+pub mod OctilinearEdges
 -- the other way along an edge: opposite values
 pub mod Reversal
 -- the sum over at most three pieces

@@ -10,13 +10,15 @@ pub mod Inside
 -- the rounded details, and the root term
 pub mod Rounded
 -- level, upright and 45-degree edges
-pub mod Straight
--- ---- what the code's contracts cite besides
+pub mod Octilinear
+-- ---- what the contracts cite besides
 -- the ranges that keep the arithmetic in 64 bits
 pub mod Room
--- the steps inside a cell
+-- the walk that `walk_of` answers, and yes or no
+pub mod WalkOf
+-- the steps inside a cell, and where its middles cut them
 pub mod Cuts
--- the walk that is handed down, and the closed form at its cuts
+-- what the functions below the public ones ask and answer
 pub mod Code
 -- ---- what is proved of it
 pub mod Laws

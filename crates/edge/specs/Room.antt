@@ -5,8 +5,7 @@
 --   Measured                                          an edge within these limits
 --   Even                                              a width that has a half
 --   Room                                              an edge and a cell
---   AxisRoom, SamplesWithin                           one direction of a walk; numbers at the four cuts
-use mathlib.Core.Path.{_≡_}
+use mathlib.Core.Path.{_≡_, refl}
 use Prim.Native.Nat.{ℕ, _*_, _^_}
 use lib.IntN.{ℤ, pos, _+ℤ_, _*ℤ_}
 use lib.Signed.{_≤ℤ_}
@@ -14,21 +13,23 @@ use Rattle.integers.specs.Units.{widthTimesExtentLimit}
 use Rattle.integers.specs.Within.{Within}
 use Rattle.edge.specs.declared.Edge.{Edge}
 use Rattle.edge.specs.declared.Cell.{Cell}
-use Rattle.edge.specs.declared.Axis.{Axis}
-use Rattle.edge.specs.declared.Samples.{Samples}
 use Rattle.edge.specs.Walk.{ax, ay}
 
--- An extent is at most twice a coordinate, and a crossing is found by the product of an extent and a difference of coordinates. With coordinates up to
--- 2^28 that product is at most 2^58, and the few sums of such products that the code forms stay below 2^63. 01's coordinates are at most 2^14.
+-- Coordinates. 01's are at most 2^14; these may lie farther off, as far as the products below allow.
 abbrev pub coordinateLimit : ℕ
 coordinateLimit = 2 ^ 28
 
+-- A difference of two coordinates, and so an extent.
 abbrev pub extentLimit : ℕ
 extentLimit = 2 * coordinateLimit
 
--- a crossing of the far side: the product, and a width times an extent
+-- The number of a walk's steps, a product of two extents, and the step at which a line is crossed, a product of an extent and a difference and, for the
+-- far side, a width times an extent. Twice the product of two extents is more than either, and a sum of two such still fits.
 abbrev pub crossingLimit : ℕ
 crossingLimit = 2 * (extentLimit * extentLimit)
+
+crossing-is : crossingLimit ≡ 2 ^ 59
+crossing-is = refl
 
 pub record Measured (e : Edge) : Type 0 where
   pub x0 : Within (pos coordinateLimit) (e .x0)
@@ -36,13 +37,13 @@ pub record Measured (e : Edge) : Type 0 where
   pub x1 : Within (pos coordinateLimit) (e .x1)
   pub y1 : Within (pos coordinateLimit) (e .y1)
 
--- a cell with quarters has its middle at a whole step
+-- a cell that has quarters: its middle is a whole coordinate
 pub record Even (w : ℤ) : Type 0 where
   pub half : ℤ
   pub half≥0 : pos 0 ≤ℤ half
   pub twice : w ≡ half +ℤ half
 
--- the product of width and extent is bounded, and not each alone, so that a small cell may lie on a large sheet
+-- It is the product of width and extent that is small, so that a narrow cell may lie under a long edge. On a tile it is at most 2^28.
 pub record Room (e : Edge) (c : Cell) : Type 0 where
   pub edge : Measured e
   pub left : Within (pos coordinateLimit) (c .left)
@@ -50,19 +51,3 @@ pub record Room (e : Edge) (c : Cell) : Type 0 where
   pub even : Even (c .width)
   pub wide : (pos (ax e) *ℤ c .width) ≤ℤ pos widthTimesExtentLimit
   pub tall : (pos (ay e) *ℤ c .width) ≤ℤ pos widthTimesExtentLimit
-
--- ---- the same for one direction of a walk, and for numbers at the four cuts
-pub record AxisRoom (a : Axis) (side w : ℤ) : Type 0 where
-  pub scaled : pos 0 ≤ℤ a .scale
-  pub scale : a .scale ≤ℤ pos extentLimit
-  pub signed : Within (pos 1) (a .sign)
-  pub start : Within (pos coordinateLimit) (a .start)
-  pub line : Within (pos coordinateLimit) side
-  pub width : pos 0 ≤ℤ w
-  pub wide : (a .scale *ℤ w) ≤ℤ pos widthTimesExtentLimit
-
-pub record SamplesWithin (b : ℤ) (s : Samples) : Type 0 where
-  pub first : Within b (s .first)
-  pub second : Within b (s .second)
-  pub third : Within b (s .third)
-  pub fourth : Within b (s .fourth)

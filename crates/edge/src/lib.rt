@@ -21,6 +21,7 @@
 // 64 bits (`specs/Room.antt`), and nothing is rounded but the three values, each on its own.
 
 ghost use mathlib.Core.Path.{_≡_};
+ghost use mathlib.Core.Logic.{_⊎_};
 ghost use lib.IntN.{pos, _+ℤ_, _-ℤ_, _*ℤ_};
 ghost use lib.Signed.{_≤ℤ_, _<ℤ_};
 ghost use Rattle.integers.specs.Units.{widthTimesExtentLimit};
@@ -30,11 +31,10 @@ ghost use Rattle.integers.specs.Clamp.{clamp};
 ghost use Rattle.edge.specs.Walk.{extent as extentOf, sign as signOf, dx, dy, ax as axOf, ay as ayOf};
 ghost use Rattle.edge.specs.Inside.{Inside};
 ghost use Rattle.edge.specs.Rounded.{details as detailsOf};
-ghost use Rattle.edge.specs.Cuts.{strip as stripSteps, stripOf, meet as meetOf, span as spanOf};
-ghost use Rattle.edge.specs.Cuts.{toMiddle};
-ghost use Rattle.edge.specs.Cuts.{cutsAt};
-ghost use Rattle.edge.specs.Room.{coordinateLimit, extentLimit, crossingLimit, Measured, Even, Room, AxisRoom, SamplesWithin};
-ghost use Rattle.edge.specs.Code.{IsWalk, Decides, Shows, SameHalf, SameQuarter, SamplesClosed, beyondAt, nearAt, pieceSum, numeratorsAt, roundedBy};
+ghost use Rattle.edge.specs.Cuts.{strip as stripSteps, stripOf, meet as meetOf, span as spanOf, toMiddle, cutsAt};
+ghost use Rattle.edge.specs.Room.{coordinateLimit, extentLimit, crossingLimit, Measured, Even, Room};
+ghost use Rattle.edge.specs.Code.{AxisRoom, SamplesWithin, Shows, SameHalf, SameQuarter, SamplesClosed, beyondAt, nearAt, pieceSum, numeratorsAt, roundedBy};
+ghost use Rattle.edge.specs.WalkOf.{IsWalk, Decides};
 use integers::div_round_half_away;
 
 // From (x0, y0) to (x1, y1).
@@ -137,12 +137,25 @@ fn sign(d: i64) -> i64
 
 // ---- the walk
 
-// In unit steps if the edge is level, upright or at 45 degrees: then x and y are whole after each.
+// Is an edge with these signs and extents level, upright or at 45 degrees?
+fn is_octilinear(sx: i64, sy: i64, ax: i64, ay: i64) -> bool
+    ensures { λ b. ⌜ Decides b ((sx ≡ pos 0) ⊎ (sy ≡ pos 0) ⊎ (ax ≡ ay)) ⌝ }
+{
+    if sx == 0 {
+        true
+    } else if sy == 0 {
+        true
+    } else {
+        ax == ay
+    }
+}
+
+// In unit steps if it is: then x and y are whole after each.
 fn walk_along(e: Edge, ax: i64, ay: i64, sx: i64, sy: i64) -> Walk
     requires { ⌜ Measured e × (ax ≡ pos (axOf e)) × (ay ≡ pos (ayOf e)) × (sx ≡ signOf (dx e)) × (sy ≡ signOf (dy e)) ⌝ }
     ensures { λ w. ⌜ (w .edge ≡ e) × IsWalk w ⌝ }
 {
-    if sx == 0 || sy == 0 || ax == ay {
+    if is_octilinear(sx, sy, ax, ay) {
         Walk {
             edge: e,
             x: Axis {

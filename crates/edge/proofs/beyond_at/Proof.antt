@@ -5,7 +5,8 @@ use lib.Signed.{_≤ℤ_}
 use Rattle.integers.specs.Within.{Within}
 use Rattle.edge.specs.declared.Axis.{Axis}
 use Rattle.edge.specs.Walk.{beyond}
-use Rattle.edge.specs.Room.{coordinateLimit, extentLimit, crossingLimit, AxisRoom}
+use Rattle.edge.specs.Room.{coordinateLimit, extentLimit, crossingLimit}
+use Rattle.edge.specs.Code.{AxisRoom}
 use Rattle.edge.proofs.Bits.{back, fits-within, back-is, within-back, result-is}
 use Rattle.edge.specs.Lemmas.Records.{samples-eq}
 use Rattle.edge.proofs.Held.{held-within}

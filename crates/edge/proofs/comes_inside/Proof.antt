@@ -4,7 +4,7 @@ use lib.Signed.{ltZ}
 use borrow.Author.Needs.{needs}
 use Rattle.edge.specs.declared.Span.{Span}
 use Rattle.edge.specs.Inside.{Inside}
-use Rattle.edge.specs.Code.{Decides}
+use Rattle.edge.specs.WalkOf.{Decides}
 use Rattle.edge.specs.Laws.WalkInside.{span-decides}
 use Rattle.edge.proofs.Bits.{field-is}
 use Rattle.edge.proofs.comes_inside.Statement.{statement}

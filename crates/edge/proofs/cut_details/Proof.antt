@@ -5,11 +5,9 @@ use lib.Signed.{_<ℤ_}
 use mir.Facts.{toZ-ofZ}
 use borrow.Author.Needs.{needs}
 use Rattle.edge.specs.declared.Span.{Span}
-use Rattle.edge.specs.Cuts.{span}
-use Rattle.edge.specs.Cuts.{toMiddle}
-use Rattle.edge.specs.Cuts.{cuts, cutsAt}
-use Rattle.edge.specs.Room.{crossingLimit, SamplesWithin}
-use Rattle.edge.specs.Code.{SamplesClosed, numeratorsAt, roundedBy}
+use Rattle.edge.specs.Cuts.{span, toMiddle, cuts, cutsAt}
+use Rattle.edge.specs.Room.{crossingLimit}
+use Rattle.edge.specs.Code.{SamplesWithin, SamplesClosed, numeratorsAt, roundedBy}
 use Rattle.edge.proofs.Bits.{back-is, fits-within, result-is}
 use Rattle.edge.proofs.WalkRoom.{x-room, y-room, back-room, half-room, steps-within, divisor-pos, divisor-within}
 use Rattle.edge.proofs.CutForm.{InCell, cut-details, cuts-in-cell, ordered-within}

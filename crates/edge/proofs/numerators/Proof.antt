@@ -11,8 +11,7 @@ use Rattle.integers.specs.Within.{Within, bounds}
 use Rattle.integers.specs.Machine.{machine, linfits, known}
 use Rattle.edge.specs.declared.Axis.{Axis}
 use Rattle.edge.specs.declared.Samples.{Samples}
-use Rattle.edge.specs.Room.{AxisRoom, SamplesWithin}
-use Rattle.edge.specs.Code.{SamplesClosed, beyondAt, nearAt, pieceSum}
+use Rattle.edge.specs.Code.{AxisRoom, SamplesWithin, SamplesClosed, beyondAt, nearAt, pieceSum}
 use Rattle.edge.proofs.Bits.{back, back-is, result-is}
 use Rattle.edge.specs.Lemmas.Records.{details-eq}
 use Rattle.edge.proofs.Held.{held-fits, held-back, held-within}

@@ -13,7 +13,7 @@ use Rattle.edge.specs.declared.Edge.{Edge}
 use Rattle.edge.specs.declared.Cell.{Cell}
 use Rattle.edge.specs.Walk.{dx, dy}
 use Rattle.edge.specs.Room.{coordinateLimit, extentLimit}
-use Rattle.edge.specs.Laws.WholeTile.{OnSpan, OnCell}
+use Rattle.edge.specs.Laws.WholeTile.{OnRange, OnCell}
 use Rattle.edge.proofs.InQuarter.{toNearer, quarterH, quarterV, quarterD, in-cell, in-quarter}
 use Rattle.edge.proofs.Bits.{back, back-is, result-is}
 use Rattle.edge.specs.Lemmas.Records.{details-eq}
@@ -26,7 +26,7 @@ abbrev limit : ℕ
 limit = widthTimesExtentLimit
 
 -- ---- a point p between two sides
-module _ {side w p : ℤ} (o : OnSpan side w p) (k : Within (pos limit) w) where
+module _ {side w p : ℤ} (o : OnRange side w p) (k : Within (pos limit) w) where
   offset-within : Within (pos limit) (p -ℤ side)
   offset-within = record {
     low = lin≤ (side ∷ p ∷ []) (le (o .low)) (search linear depth 40) tt;
@@ -51,7 +51,7 @@ module _ (s : tie.Start) where
   width : Held limit (back w) w
   width = let k = width-within (s .pre .0) in record { is = back-is tt k; within = k }
 
-  module _ {side p : ℤ} (i : Within (pos coordinateLimit) side) (j : Within (pos coordinateLimit) p) (o : OnSpan side w p) where
+  module _ {side p : ℤ} (i : Within (pos coordinateLimit) side) (j : Within (pos coordinateLimit) p) (o : OnRange side w p) where
     offset : Held limit (back (back p -ℤ back side)) (p -ℤ side)
     offset = record { is = held-back tt (difference i j) .is; within = offset-within o (width .within) }
 

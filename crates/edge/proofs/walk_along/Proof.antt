@@ -1,16 +1,12 @@
--- A walk in unit steps where the edge is straight, and else in the steps of the definitions.
+-- A walk in unit steps where the edge is octilinear, and else in the steps of the definitions.
 use mathlib.Core.Path.{_≡_, refl, sym, _∙_, ap, ap₂}
 use mathlib.Core.List.{[], _∷_}
-use mathlib.Core.Logic.{_⊎_, inl, inr, ⊎-elim}
+use mathlib.Core.Logic.{_⊎_, inl, inr}
 use Prim.Native.Nat.{ℕ, _*_, max}
 use native.Mathlib.Nat.{max-eq-left, max-eq-right}
 use lib.IntN.{ℤ, pos, natAbs, _*ℤ_}
 use lib.Signed.{_≤ℤ_, _<ℤ_}
-use mir.Syntax.{w64}
-use mir.Val.{SFits, toZ, ofZ}
-use mir.Facts.{toZ-ofZ, sfits-lit}
 use borrow.Author.Needs.{needs}
-use borrow.Author.Tests.{eqb-true}
 use Rattle.integers.specs.Ring.{read, comb, _⊕_, _⊗_}
 use Rattle.integers.specs.Order.{≤ℤ-or-<ℤ, ≤ℤ-of-<ℤ, ≤-of-pos}
 use Rattle.integers.specs.Machine.{known}
@@ -19,16 +15,19 @@ use Rattle.edge.specs.declared.Edge.{Edge}
 use Rattle.edge.specs.declared.Axis.{Axis}
 use Rattle.edge.specs.declared.Walk.{Walk}
 use Rattle.edge.specs.Walk.{extent, sign, dx, dy, ax, ay, steps}
-use Rattle.edge.specs.Lemmas.Ends.{sign-extent}
+use Rattle.edge.specs.Lemmas.Ends.{sign-extent, sign-zero}
 use Rattle.edge.specs.Room.{extentLimit}
-use Rattle.edge.specs.Straight.{Straight, level, upright, diagonal, unitSteps}
-use Rattle.edge.specs.Code.{fine, unit}
+use Rattle.edge.specs.Octilinear.{Octilinear, level, upright, diagonal, unitSteps}
+use Rattle.edge.specs.WalkOf.{fine, unit}
 use Rattle.edge.proofs.Bits.{back, result-is, back-is}
 use Rattle.edge.specs.Lemmas.Records.{axis-eq}
 use Rattle.edge.proofs.Held.{Held, held-mul, held-fits, held-back}
 use Rattle.edge.proofs.Sizes.{difference, extent-within}
 use Rattle.edge.proofs.walk_along.Statement.{statement}
 use Rattle.edge.proofs.walk_along.Tie as tie
+
+is-octilinear-requires : tie.Need-is-octilinear-requires
+is-octilinear-requires c κs = search needs
 
 high-requires : tie.Need-high-requires
 high-requires c κs = search needs
@@ -63,30 +62,25 @@ module _ (s : tie.Start) where
       (record { is = ay-is; within = extent-within (dy edge) (difference (m .y0) (m .y1) .within) })
 
 mul-n : tie.Need-mul-n
-mul-n c = held-fits tt (product (c .before .before .before))
+mul-n c = held-fits tt (product (c .before .before))
 
--- ---- what the three tests say: numbers with the same bits are the same
-same-bits : {y z : ℤ} → SFits w64 y → SFits w64 z → ofZ w64 y ≡ ofZ w64 z → y ≡ z
-same-bits f g e = sym (toZ-ofZ f) ∙ ap (toZ w64) e ∙ toZ-ofZ g
-
+-- ---- what the test says of the edge
 standing : (d : ℤ) → sign d ≡ pos 0 → d ≡ pos 0
 standing d h = comb (d ∷ sign d ∷ pos (extent d) ∷ []) (sym (sign-extent d) ⊕ pos (extent d) ⊗ h) (search read depth 40) tt
 
-straight : (c : tie.Then3) → Straight (c .before .before .before .args .e)
-straight c =
-    let s = c .before .before .before in
-    let zero : SFits w64 (pos 0) = sfits-lit tt in
-    ⊎-elim
-    (λ w. ⊎-elim
-    (λ v. upright (standing (dx (edge s)) (sym (s .pre .3) ∙ same-bits (s .fits .sx) zero (v .0 .taken))))
-    (λ v. level (standing (dy (edge s)) (sym (s .pre .4) ∙ same-bits (s .fits .sy) zero (eqb-true (ofZ w64 (s .args .sy)) 0 (sym (v .1) ∙ w .0 .taken)))))
-    (c .before .before .if1 .came))
-    (λ w. diagonal
-    (ap natAbs
-    (sym (s .pre .1)
-    ∙ same-bits (s .fits .ax) (s .fits .ay) (eqb-true (ofZ w64 (s .args .ax)) (ofZ w64 (s .args .ay)) (sym (w .1) ∙ c .if3 .taken))
-    ∙ s .pre .2)))
-    (c .before .if2 .came)
+module _ (c : tie.After-is-octilinear) where
+  abbrev e : Edge
+  e = edge (c .before)
+
+  octilinear : (back (c .before .args .sx) ≡ pos 0) ⊎ (back (c .before .args .sy) ≡ pos 0) ⊎ (back (c .before .args .ax) ≡ back (c .before .args .ay)) → Octilinear e
+  octilinear (inl p) = upright (standing (dx e) (sym (sx-is (c .before)) ∙ p))
+  octilinear (inr (inl p)) = level (standing (dy e) (sym (sy-is (c .before)) ∙ p))
+  octilinear (inr (inr p)) = diagonal (ap natAbs (sym (ax-is (c .before)) ∙ p ∙ ay-is (c .before)))
+
+  signs : Octilinear e → (back (c .before .args .sx) ≡ pos 0) ⊎ (back (c .before .args .sy) ≡ pos 0) ⊎ (back (c .before .args .ax) ≡ back (c .before .args .ay))
+  signs (upright p) = inl (sx-is (c .before) ∙ sign-zero p)
+  signs (level p) = inr (inl (sy-is (c .before) ∙ sign-zero p))
+  signs (diagonal p) = inr (inr (ax-is (c .before) ∙ ap pos p ∙ sym (ay-is (c .before))))
 
 -- ---- the walk
 walk-eq : {e : Edge} {a a′ b b′ : Axis} {m m′ n n′ : ℤ} → a ≡ a′ → b ≡ b′ → m ≡ m′ → n ≡ n′
@@ -103,18 +97,20 @@ max-pos m n = go (≤ℤ-or-<ℤ (pos m) (pos n))
 
 returns : tie.Need-returns
 returns c =
-    let u = c .before .before .before in
-    let s = u .before .before .before in
+    let taken = c .before .before .before in
+    let test = taken .before in
+    let s = test .before in
     let n : back (c .high .result) ≡ pos (unitSteps (edge s)) =
     result-is (c .high .ok) (c .high .ensures ∙ ap₂ maxℤ (ax-is s) (ay-is s) ∙ max-pos (ax (edge s)) (ay (edge s))) in
-    (refl, unit (straight u) (walk-eq (axis-eq refl (x0-is s) (sx-is s)) (axis-eq refl (y0-is s) (sy-is s)) n refl))
+    (refl, unit (octilinear test (test .is-octilinear .ensures .yes (taken .if1 .taken))) (walk-eq (axis-eq refl (x0-is s) (sx-is s)) (axis-eq refl (y0-is s) (sy-is s)) n refl))
 
 returns-2 : tie.Need-returns-2
 returns-2 c =
-    let u = c .before .before in
-    let s = u .before .before .before in
+    let other = c .before .before in
+    let test = other .before in
+    let s = test .before in
     let n = held-back tt (product s) .is in
-    (refl, fine (walk-eq (axis-eq (ay-is s) (x0-is s) (sx-is s)) (axis-eq (ax-is s) (y0-is s) (sy-is s)) n n))
+    (refl, fine (λ o. test .is-octilinear .ensures .no (other .if1 .left) (signs test o)) (walk-eq (axis-eq (ay-is s) (x0-is s) (sx-is s)) (axis-eq (ax-is s) (y0-is s) (sy-is s)) n n))
 
 pub walk-along-spec : {M : Type 1} → statement M
-walk-along-spec = tie.close (tie.spec high-requires mul-n returns returns-2)
+walk-along-spec = tie.close (tie.spec is-octilinear-requires high-requires mul-n returns returns-2)

@@ -29,9 +29,8 @@ use Rattle.edge.specs.Lemmas.Steps.{exchanged, Outside, Rests, between-o
 use Rattle.edge.specs.Code.{Closed}
 use Rattle.edge.specs.Lemmas.Runs.{three, Ordered, three-pieces, upto-all}
 use Rattle.edge.specs.Laws.Zero.{idle-near-past, idle-near-near}
-use Rattle.edge.specs.Cuts.{span, cuts}
+use Rattle.edge.specs.Cuts.{span, cuts, toMiddle}
 use Rattle.edge.specs.Lemmas.Crossings.{span-steps, span-low, span-high}
-use Rattle.edge.specs.Cuts.{toMiddle}
 use Rattle.edge.specs.Lemmas.OneDirection.{BothLinear, both-linear}
 
 abbrev pub threeAt : (ℤ → ℤ) → (ℤ → ℤ) → Samples → ℤ

@@ -18,7 +18,7 @@ use Rattle.edge.specs.declared.Cell.{Cell}
 use Rattle.edge.specs.declared.Axis.{Axis}
 use Rattle.edge.specs.Walk.{beyond}
 use Rattle.edge.specs.Inside.{twiceMiddle, Between, SomeStepInside}
-use Rattle.edge.specs.Laws.Refinement.{finer, Pace, moving, standing, Cut}
+use Rattle.edge.specs.Laws.Refinement.{finer, Pace, moving, standing, Subdivided}
 
 -- ---- a step from u to u + s, where s is at most one either way
 -- k times over, in k parts: both ends of part ρ added up
@@ -99,7 +99,7 @@ between-parts side w {a} s {i} {b = b} {c} {τ} {υ} p q h =
     less {x} {y} h = lin< (x ∷ y ∷ []) (lt h) (search linear depth 40) tt
 
 -- ---- walks
-module _ {r k l : ℕ} {a b : Axis} (p : Cut r k a) (q : Cut r l b) (gr : 0 < r) (gk : 0 < k) (gl : 0 < l) {c : Cell} {n : ℕ} where
+module _ {r k l : ℕ} {a b : Axis} (p : Subdivided r k a) (q : Subdivided r l b) (gr : 0 < r) (gk : 0 < k) (gl : 0 < l) {c : Cell} {n : ℕ} where
   pub inside-finer : SomeStepInside a b c n → SomeStepInside (finer k a) (finer l b) c (n * r)
   inside-finer s =
       let i = s .step in

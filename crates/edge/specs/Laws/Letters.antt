@@ -2,7 +2,7 @@
 --
 -- Main results
 --   g-steps, g-h, g-details      G: h is 2,038 / 4 = 509 1/2, "rounded to 510"
---   h-details                    H, "G reversed": the opposite
+--   g-reversed                    H, "G reversed": the opposite
 --   f-steps, f-h, f-details      F: "Exact h is 298 2/3", 114,688 / 384, which rounds to 299
 use mathlib.Core.Path.{_≡_, refl, _∙_, ap}
 use lib.IntN.{pos, negsuc}
@@ -50,8 +50,8 @@ unfolding details extent roundHalfAway nearestℕ
 g-details = details-eq (ap (λ z. roundHalfAway z 4) g-h) (ap (λ z. roundHalfAway z 4) g-v) (ap (λ z. roundHalfAway z 4) g-d)
 
 -- "H. G reversed"
-pub h-details : details (reverse g) tile ≡ record { h = negsuc 509; v = pos 4; d = negsuc 509 }
-h-details = details-reverse g tile ∙ ap opposite g-details
+pub g-reversed : details (reverse g) tile ≡ record { h = negsuc 509; v = pos 4; d = negsuc 509 }
+g-reversed = details-reverse g tile ∙ ap opposite g-details
 
 -- "F. Side 2, (0,0) (384,1) (0,1)"
 abbrev f : Edge

@@ -2,7 +2,7 @@
 -- term of its two end points.
 --
 -- Main results
---   quarter, turn           quarter (i, j) of a cell, and the sign 1 − 2 b that a detail has in half b
+--   quarter, halfSign           quarter (i, j) of a cell, and the sign 1 − 2 b that a detail has in half b
 --   boundary                the term of an end point
 --   edge-quarter            4 × area in quarter (i, j) = area ± h ± (v and the end points' terms) ± d, for the four quarters at once
 use mathlib.Core.Path.{_≡_, sym, _∙_, ap, ap₂}
@@ -28,8 +28,8 @@ abbrev pub quarter : Cell → ℤ → ℕ → ℕ → Cell
 quarter c half i j = record { left = c .left +ℤ pos i *ℤ half; top = c .top +ℤ pos j *ℤ half; width = half }
 
 -- 1 in half 0, −1 in half 1
-abbrev pub turn : ℕ → ℤ
-turn b = pos 1 -ℤ pos 2 *ℤ pos b
+abbrev pub halfSign : ℕ → ℤ
+halfSign b = pos 1 -ℤ pos 2 *ℤ pos b
 
 -- A function of the end point alone: around a closed contour each point is the end of one edge and the start of the next, and it cancels.
 unfoldable pub boundary : Cell → ℤ → ℤ → ℤ
@@ -58,7 +58,7 @@ S-halves f g F G A B σ τ n p q =
 
 -- ---- one direction: twice how far the walk is past a half's side is that of the whole, plus or minus the distance to the nearer side
 past-half : (a : Axis) (side : ℤ) {w half : ℤ} → pos 0 ≤ℤ a .scale → w ≡ half +ℤ half → pos 0 ≤ℤ half → (b : ℕ) → b < 2 → (t : ℤ)
-    → pos 2 *ℤ past a (side +ℤ pos b *ℤ half) half t ≡ past a side w t +ℤ turn b *ℤ near a side w t
+    → pos 2 *ℤ past a (side +ℤ pos b *ℤ half) half t ≡ past a side w t +ℤ halfSign b *ℤ near a side w t
 past-half a side {w} {half} g e h b k t =
     let whole : a .scale *ℤ w ≡ a .scale *ℤ half +ℤ a .scale *ℤ half = comb (a .scale ∷ w ∷ half ∷ []) (a .scale ⊗ e) (search read depth 40) tt in
     ap (λ v. pos 2 *ℤ clamp v (pos 0) (a .scale *ℤ half)) {y = beyond a side t -ℤ pos b *ℤ (a .scale *ℤ half)}
@@ -94,15 +94,15 @@ module _ (e : Edge) (c : Cell) (w≥0 : pos 0 ≤ℤ c .width) where
 
 pub edge-quarter : (e : Edge) (c : Cell) (half : ℤ) → c .width ≡ half +ℤ half → pos 0 ≤ℤ half → (i j : ℕ) → i < 2 → j < 2
     → pos 4 *ℤ areaNum e (quarter c half i j)
-    ≡ areaNum e c +ℤ turn i *ℤ hNum e c
-    +ℤ turn j *ℤ (vNum e c +ℤ pos (steps e) *ℤ (pos 2 *ℤ (boundary c (e .x1) (e .y1) -ℤ boundary c (e .x0) (e .y0))))
-    +ℤ turn i *ℤ turn j *ℤ dNum e c
+    ≡ areaNum e c +ℤ halfSign i *ℤ hNum e c
+    +ℤ halfSign j *ℤ (vNum e c +ℤ pos (steps e) *ℤ (pos 2 *ℤ (boundary c (e .x1) (e .y1) -ℤ boundary c (e .x0) (e .y0))))
+    +ℤ halfSign i *ℤ halfSign j *ℤ dNum e c
 unfolding areaNum hNum dNum
 edge-quarter e c half w h i j k l =
     let w≥0 : pos 0 ≤ℤ c .width = lin≤ (c .width ∷ half ∷ []) (eq w & le h) (search linear depth 40) tt in
     let q = quarter c half i j in
     S-halves (λ t. past (xAxis e) (q .left) half (pos t)) (λ t. past (yAxis e) (q .top) half (pos t))
     (λ t. past (xAxis e) (c .left) (c .width) (pos t)) (λ t. past (yAxis e) (c .top) (c .width) (pos t))
-    (λ t. near (xAxis e) (c .left) (c .width) (pos t)) (λ t. near (yAxis e) (c .top) (c .width) (pos t)) (turn i) (turn j) (steps e)
+    (λ t. near (xAxis e) (c .left) (c .width) (pos t)) (λ t. near (yAxis e) (c .top) (c .width) (pos t)) (halfSign i) (halfSign j) (steps e)
     (λ t. past-half (xAxis e) (c .left) (nonneg (ay e)) w h i k (pos t)) (λ t. past-half (yAxis e) (c .top) (nonneg (ax e)) w h j l (pos t))
-    ∙ ap (λ z. areaNum e c +ℤ turn i *ℤ hNum e c +ℤ turn j *ℤ z +ℤ turn i *ℤ turn j *ℤ dNum e c) (upper-less-lower e c w≥0)
+    ∙ ap (λ z. areaNum e c +ℤ halfSign i *ℤ hNum e c +ℤ halfSign j *ℤ z +ℤ halfSign i *ℤ halfSign j *ℤ dNum e c) (upper-less-lower e c w≥0)

@@ -3,7 +3,7 @@
 -- Main results
 --   finer                                          an axis in a scale k times as fine, and so in steps k times as short
 --   Finer, S-finer                                 f and g k and l times as large as F and G, linear in r parts of each step: k l times their sum
---   Pace, Cut, cut, x-cut, y-cut                   axes of which one step is r steps of `finer k`; for k = r all that move by at most one
+--   Pace, Subdivided, subdivided, x-subdivided, y-subdivided                   axes of which one step is r steps of `finer k`; for k = r all that move by at most one
 --   over, Piecewise, clamp-piecewise,
 --   tent-piecewise                                 functions of the distance past a side that bend at whole numbers only
 --   over-finer                                     such a function along an axis, and along the finer one, are `Finer`
@@ -63,19 +63,19 @@ pub data Pace (r k : ℕ) (s : ℤ) : Type 0 where
   moving : k ≡ r → Pace r k s
   standing : s ≡ pos 0 → Pace r k s
 
-pub record Cut (r k : ℕ) (a : Axis) : Type 0 where
+pub record Subdivided (r k : ℕ) (a : Axis) : Type 0 where
   pub size : pos 0 ≤ℤ a .scale
   pub unit : Within (pos 1) (a .sign)
   pub pace : Pace r k (a .sign)
 
-pub cut : (r : ℕ) {a : Axis} → pos 0 ≤ℤ a .scale → Within (pos 1) (a .sign) → Cut r r a
-cut r h u = record { size = h; unit = u; pace = moving refl }
+pub subdivided : (r : ℕ) {a : Axis} → pos 0 ≤ℤ a .scale → Within (pos 1) (a .sign) → Subdivided r r a
+subdivided r h u = record { size = h; unit = u; pace = moving refl }
 
-pub x-cut : (e : Edge) (r : ℕ) → Cut r r (xAxis e)
-x-cut e r = cut r (nonneg (ay e)) (direction-within (direction (dx e)))
+pub x-subdivided : (e : Edge) (r : ℕ) → Subdivided r r (xAxis e)
+x-subdivided e r = subdivided r (nonneg (ay e)) (direction-within (direction (dx e)))
 
-pub y-cut : (e : Edge) (r : ℕ) → Cut r r (yAxis e)
-y-cut e r = cut r (nonneg (ax e)) (direction-within (direction (dy e)))
+pub y-subdivided : (e : Edge) (r : ℕ) → Subdivided r r (yAxis e)
+y-subdivided e r = subdivided r (nonneg (ax e)) (direction-within (direction (dy e)))
 
 -- ---- functions of the distance past a side
 -- φ of the width and the distance, both `scale` times over: `past` is `over clamped`, and `near` is `over tent`
@@ -128,7 +128,7 @@ module _ {w : ℤ} {φ : ℤ → ℤ → ℤ} (p : Piecewise w φ) (a : Axis) (s
         (ring (pos i ∷ a .scale ∷ a .start ∷ a .sign ∷ side ∷ []) (search read depth 40) tt);
   }
 
-  pub over-finer : {r k : ℕ} → Cut r k a → Finer r k coarse (fine k)
+  pub over-finer : {r k : ℕ} → Subdivided r k a → Finer r k coarse (fine k)
   over-finer {r} {k} c = go (c .pace)
     where
       go : Pace r k (a .sign) → Finer r k coarse (fine k)
@@ -140,7 +140,7 @@ module _ {w : ℤ} {φ : ℤ → ℤ → ℤ} (p : Piecewise w φ) (a : Axis) (s
       }
 
 -- ---- integrals
-pub along-finer : {w : ℤ} {φ ψ : ℤ → ℤ → ℤ} → Piecewise w φ → Piecewise w ψ → {r k l : ℕ} {a b : Axis} → Cut r k a → Cut r l b → (x y : ℤ) (n : ℕ)
+pub along-finer : {w : ℤ} {φ ψ : ℤ → ℤ → ℤ} → Piecewise w φ → Piecewise w ψ → {r k l : ℕ} {a b : Axis} → Subdivided r k a → Subdivided r l b → (x y : ℤ) (n : ℕ)
     → along (over φ (finer k a) x w) (over ψ (finer l b) y w) (n * r) ≡ pos (k * l) *ℤ along (over φ a x w) (over ψ b y w) n
 along-finer p q {a = a} {b} ca cb x y n = S-finer (over-finer p a x ca) (over-finer q b y cb) n
 
@@ -148,20 +148,20 @@ module _ (e : Edge) (c : Cell) (r : ℕ) where
   pub area-finer : pos 0 ≤ℤ c .width
       → along (past (finer r (xAxis e)) (c .left) (c .width)) (past (finer r (yAxis e)) (c .top) (c .width)) (steps e * r) ≡ pos (r * r) *ℤ areaNum e c
   unfolding areaNum
-  area-finer h = along-finer (clamp-piecewise h) (clamp-piecewise h) (x-cut e r) (y-cut e r) (c .left) (c .top) (steps e)
+  area-finer h = along-finer (clamp-piecewise h) (clamp-piecewise h) (x-subdivided e r) (y-subdivided e r) (c .left) (c .top) (steps e)
 
   -- where the middle of the cell is a whole number
   module _ {half : ℤ} (w : c .width ≡ half +ℤ half) (h : pos 0 ≤ℤ half) where
     pub h-finer : along (near (finer r (xAxis e)) (c .left) (c .width)) (past (finer r (yAxis e)) (c .top) (c .width)) (steps e * r) ≡ pos (r * r) *ℤ hNum e c
     unfolding hNum
-    h-finer = along-finer (tent-piecewise w h) (clamp-piecewise (even-nonneg w h)) (x-cut e r) (y-cut e r) (c .left) (c .top) (steps e)
+    h-finer = along-finer (tent-piecewise w h) (clamp-piecewise (even-nonneg w h)) (x-subdivided e r) (y-subdivided e r) (c .left) (c .top) (steps e)
 
     pub v-finer : negℤ (along (near (finer r (yAxis e)) (c .top) (c .width)) (past (finer r (xAxis e)) (c .left) (c .width)) (steps e * r)) ≡ pos (r * r) *ℤ vNum e c
     unfolding vNum
     v-finer =
-        ap negℤ (along-finer (tent-piecewise w h) (clamp-piecewise (even-nonneg w h)) (y-cut e r) (x-cut e r) (c .top) (c .left) (steps e))
+        ap negℤ (along-finer (tent-piecewise w h) (clamp-piecewise (even-nonneg w h)) (y-subdivided e r) (x-subdivided e r) (c .top) (c .left) (steps e))
         ∙ ring (pos r ∷ along (near (yAxis e) (c .top) (c .width)) (past (xAxis e) (c .left) (c .width)) (steps e) ∷ []) (search read depth 40) tt
 
     pub d-finer : along (near (finer r (xAxis e)) (c .left) (c .width)) (near (finer r (yAxis e)) (c .top) (c .width)) (steps e * r) ≡ pos (r * r) *ℤ dNum e c
     unfolding dNum
-    d-finer = along-finer (tent-piecewise w h) (tent-piecewise w h) (x-cut e r) (y-cut e r) (c .left) (c .top) (steps e)
+    d-finer = along-finer (tent-piecewise w h) (tent-piecewise w h) (x-subdivided e r) (y-subdivided e r) (c .left) (c .top) (steps e)

@@ -16,9 +16,9 @@ use Rattle.edge.specs.Inside.{Inside}
 use Rattle.edge.specs.Lemmas.Ends.{Steady, direction, x-steady, y-steady}
 use Rattle.edge.specs.Cuts.{span}
 use Rattle.edge.specs.Lemmas.Crossings.{span-inside, inside-span}
-use Rattle.edge.specs.Straight.{unitX, unitY}
-use Rattle.edge.specs.Laws.StraightEdges.{straight-inside, straight-inside-unit}
-use Rattle.edge.specs.Code.{IsWalk, fine, unit, Decides}
+use Rattle.edge.specs.Octilinear.{unitX, unitY}
+use Rattle.edge.specs.Laws.OctilinearEdges.{octilinear-inside, octilinear-inside-unit}
+use Rattle.edge.specs.WalkOf.{IsWalk, fine, unit, Decides}
 
 pub unit-x-steady : (e : Edge) → Steady (unitX e)
 unit-x-steady e = record { scaled = nonneg 1; signed = direction (dx e) }
@@ -30,17 +30,17 @@ abbrev Comes : Walk → Cell → Type 0
 Comes w c = span (w .x) (w .y) c (w .steps) .first <ℤ span (w .x) (w .y) c (w .steps) .last
 
 pub inside-of-span : {w : Walk} → IsWalk w → (c : Cell) → span (w .x) (w .y) c (w .steps) .first <ℤ span (w .x) (w .y) c (w .steps) .last → Inside (w .edge) c
-inside-of-span {w} (fine e) c =
+inside-of-span {w} (fine o e) c =
     subst⁻¹ (λ z. Comes z c → Inside (w .edge) c) e (span-inside (xAxis (w .edge)) (yAxis (w .edge)) (x-steady (w .edge)) (y-steady (w .edge)) c)
 inside-of-span {w} (unit s e) c =
     subst⁻¹ (λ z. Comes z c → Inside (w .edge) c) e
-    (λ h. straight-inside s c (span-inside (unitX (w .edge)) (unitY (w .edge)) (unit-x-steady (w .edge)) (unit-y-steady (w .edge)) c h))
+    (λ h. octilinear-inside s c (span-inside (unitX (w .edge)) (unitY (w .edge)) (unit-x-steady (w .edge)) (unit-y-steady (w .edge)) c h))
 
 pub span-of-inside : {w : Walk} → IsWalk w → (c : Cell) → Inside (w .edge) c → span (w .x) (w .y) c (w .steps) .first <ℤ span (w .x) (w .y) c (w .steps) .last
-span-of-inside {w} (fine e) c i =
+span-of-inside {w} (fine o e) c i =
     subst⁻¹ (λ z. Comes z c) e (inside-span (xAxis (w .edge)) (yAxis (w .edge)) (x-steady (w .edge)) (y-steady (w .edge)) c i)
 span-of-inside {w} (unit s e) c i =
-    subst⁻¹ (λ z. Comes z c) e (inside-span (unitX (w .edge)) (unitY (w .edge)) (unit-x-steady (w .edge)) (unit-y-steady (w .edge)) c (straight-inside-unit s c i))
+    subst⁻¹ (λ z. Comes z c) e (inside-span (unitX (w .edge)) (unitY (w .edge)) (unit-x-steady (w .edge)) (unit-y-steady (w .edge)) c (octilinear-inside-unit s c i))
 
 pub span-decides : {w : Walk} → IsWalk w → (c : Cell) → Decides (ltZ (span (w .x) (w .y) c (w .steps) .first) (span (w .x) (w .y) c (w .steps) .last)) (Inside (w .edge) c)
 span-decides {w} k c = record {

@@ -1,7 +1,7 @@
 -- An edge that lies in a cell, as every edge of an outline lies on the tile: its area there is its term of the root, and a term of its two end points.
 --
 -- Main results
---   OnSpan, OnCell          a coordinate between two sides; both end points of an edge in the closed cell
+--   OnRange, OnCell          a coordinate between two sides; both end points of an edge in the closed cell
 --   stays-between           a walk whose two ends lie between two sides stays between them
 --   rootBoundary            the term of an end point
 --   whole-tile              area = root term + the end points' terms, N times over
@@ -27,15 +27,15 @@ use Rattle.edge.specs.Lemmas.OneDirection.{ClosedRun}
 use Rattle.edge.specs.Rounded.{rootTerm}
 
 -- p lies between two sides, w apart, or on one of them
-pub record OnSpan (side w p : ℤ) : Type 0 where
+pub record OnRange (side w p : ℤ) : Type 0 where
   pub low : side ≤ℤ p
   pub high : p ≤ℤ (side +ℤ w)
 
 pub record OnCell (c : Cell) (e : Edge) : Type 0 where
-  pub x0 : OnSpan (c .left) (c .width) (e .x0)
-  pub y0 : OnSpan (c .top) (c .width) (e .y0)
-  pub x1 : OnSpan (c .left) (c .width) (e .x1)
-  pub y1 : OnSpan (c .top) (c .width) (e .y1)
+  pub x0 : OnRange (c .left) (c .width) (e .x0)
+  pub y0 : OnRange (c .top) (c .width) (e .y0)
+  pub x1 : OnRange (c .left) (c .width) (e .x1)
+  pub y1 : OnRange (c .top) (c .width) (e .y1)
 
 -- A function of the end point alone: around a closed contour it cancels, and the root terms are left.
 unfoldable pub rootBoundary : Cell → ℤ → ℤ → ℤ
@@ -50,7 +50,7 @@ nonneg-between u s {n} {t} g h p q = go (≤ℤ-or-<ℤ (pos 0) s)
     go (inr k) = lin≤ (u ∷ s ∷ n ∷ t ∷ []) (le q & le (≤ℤ-mul (≤ℤ-of-<ℤ k) h)) (search linear depth 40) tt
 
 -- ---- one direction of a walk whose two ends, its start and q, lie between two sides: so does all of it
-pub stays-between : (a : Axis) (side w q : ℤ) {n : ℤ} → pos 0 ≤ℤ a .scale → OnSpan side w (a .start) → OnSpan side w q
+pub stays-between : (a : Axis) (side w q : ℤ) {n : ℤ} → pos 0 ≤ℤ a .scale → OnRange side w (a .start) → OnRange side w q
     → beyond a side n ≡ a .scale *ℤ (q -ℤ side) → ClosedRun a side w (pos 0) n
 stays-between a side w q {n} g i j e = record {
   at = λ t l h.
@@ -75,7 +75,7 @@ record Unheld (a : Axis) (side w q : ℤ) (n : ℕ) : Type 0 where
   first : past a side w (pos 0) ≡ a .scale *ℤ (a .start -ℤ side)
   last : past a side w (pos n) ≡ a .scale *ℤ (q -ℤ side)
 
-unheld : (a : Axis) (side w q : ℤ) (n : ℕ) → pos 0 ≤ℤ a .scale → OnSpan side w (a .start) → OnSpan side w q
+unheld : (a : Axis) (side w q : ℤ) (n : ℕ) → pos 0 ≤ℤ a .scale → OnRange side w (a .start) → OnRange side w q
     → beyond a side (pos n) ≡ a .scale *ℤ (q -ℤ side) → Unheld a side w q n
 unheld a side w q n g i j e = record {
   affine = record { at = λ t h. free t h ∙ ring (a .scale ∷ a .start ∷ a .sign ∷ side ∷ pos t ∷ []) (search read depth 40) tt };

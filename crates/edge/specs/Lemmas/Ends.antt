@@ -16,7 +16,7 @@ use mathlib.Core.List.{[], _∷_}
 use Prim.Native.Nat.{zero, suc, _<_}
 use native.Mathlib.Nat.{mul-pos}
 use native.Mathlib.Omega.{arith}
-use lib.IntN.{ℤ, pos, negsuc, negℤ, _+ℤ_, _-ℤ_, _*ℤ_}
+use lib.IntN.{ℤ, pos, negsuc, negℤ, _-ℤ_, _*ℤ_}
 use lib.Signed.{_≤ℤ_}
 use Rattle.integers.specs.Ring.{read, ring, comb, _⊗_}
 use Rattle.integers.specs.Order.{nonneg}

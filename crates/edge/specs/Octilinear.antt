@@ -1,7 +1,7 @@
 -- Edges that are level, upright or at 45 degrees. Walked in unit steps, x and y are whole numbers after each, so their values need no division.
 --
 -- Definitions
---   Straight                         level, upright, or at 45 degrees
+--   Octilinear                         level, upright, or at 45 degrees
 --   unitX, unitY, unitSteps          the walk in unit steps
 use mathlib.Core.Path.{_≡_}
 use Prim.Native.Nat.{ℕ, max}
@@ -11,10 +11,10 @@ use Rattle.edge.specs.declared.Axis.{Axis}
 use Rattle.edge.specs.Walk.{sign, dx, dy, ax, ay}
 
 -- "every edge is level, upright or at 45 degrees": of one at 45 degrees both extents are the same
-pub data Straight (e : Edge) : Type 0 where
-  level : dy e ≡ pos 0 → Straight e
-  upright : dx e ≡ pos 0 → Straight e
-  diagonal : ax e ≡ ay e → Straight e
+pub data Octilinear (e : Edge) : Type 0 where
+  level : dy e ≡ pos 0 → Octilinear e
+  upright : dx e ≡ pos 0 → Octilinear e
+  diagonal : ax e ≡ ay e → Octilinear e
 
 abbrev pub unitX : Edge → Axis
 unitX e = record { scale = pos 1; start = e .x0; sign = sign (dx e) }
