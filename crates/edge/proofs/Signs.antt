@@ -51,36 +51,36 @@ pub extent-zero : {d : ℤ} → d ≤ℤ pos 0 → pos 0 ≤ℤ d → pos (exten
 unfolding extent
 extent-zero h k = ap (λ d. pos (extent d)) (≤ℤ-antisym h k)
 
-pub strip-forward : (s near far n : ℤ) → pos 0 <ℤ s → strip s near far n ≡ record { first = near; last = far }
+pub strip-forward : (s lower upper n : ℤ) → pos 0 <ℤ s → strip s lower upper n ≡ record { first = lower; last = upper }
 unfolding strip
-strip-forward (pos zero) near far n h = absurd (h .lt)
-strip-forward (pos (suc s)) near far n h = refl
-strip-forward (negsuc s) near far n h = absurd (h .lt)
+strip-forward (pos zero) lower upper n h = absurd (h .lt)
+strip-forward (pos (suc s)) lower upper n h = refl
+strip-forward (negsuc s) lower upper n h = absurd (h .lt)
 
-pub strip-backward : (s near far n : ℤ) → s <ℤ pos 0 → strip s near far n ≡ record { first = negℤ far; last = negℤ near }
+pub strip-backward : (s lower upper n : ℤ) → s <ℤ pos 0 → strip s lower upper n ≡ record { first = negℤ upper; last = negℤ lower }
 unfolding strip
-strip-backward (pos zero) near far n h = absurd (h .lt)
-strip-backward (pos (suc s)) near far n h = lin⊥ (pos s ∷ []) (lt h & le (nonneg s)) (search linear depth 40) tt
-strip-backward (negsuc s) near far n h = refl
+strip-backward (pos zero) lower upper n h = absurd (h .lt)
+strip-backward (pos (suc s)) lower upper n h = lin⊥ (pos s ∷ []) (lt h & le (nonneg s)) (search linear depth 40) tt
+strip-backward (negsuc s) lower upper n h = refl
 
 -- standing still between the lines, or not
-pub strip-between : {s near far : ℤ} (n : ℤ) → s ≤ℤ pos 0 → pos 0 ≤ℤ s → near <ℤ pos 0 → pos 0 <ℤ far → strip s near far n ≡ record { first = pos 0; last = n }
+pub strip-between : {s lower upper : ℤ} (n : ℤ) → s ≤ℤ pos 0 → pos 0 ≤ℤ s → lower <ℤ pos 0 → pos 0 <ℤ upper → strip s lower upper n ≡ record { first = pos 0; last = n }
 unfolding strip
-strip-between {s} {near} {far} n h k i j = ap (λ s. strip s near far n) (≤ℤ-antisym h k) ∙ go (ltZ near (pos 0)) (ltZ (pos 0) far) ltZ-false ltZ-false
+strip-between {s} {lower} {upper} n h k i j = ap (λ s. strip s lower upper n) (≤ℤ-antisym h k) ∙ go (ltZ lower (pos 0)) (ltZ (pos 0) upper) ltZ-false ltZ-false
   where
-    go : (b c : Bool) → (b ≡ false → pos 0 ≤ℤ near) → (c ≡ false → far ≤ℤ pos 0)
+    go : (b c : Bool) → (b ≡ false → pos 0 ≤ℤ lower) → (c ≡ false → upper ≤ℤ pos 0)
         → _≡_ {A = Span} (cond b (cond c (record { first = pos 0; last = n }) (record { first = n; last = pos 0 })) (record { first = n; last = pos 0 })) (record { first = pos 0; last = n })
     go true true _ _ = refl
-    go true false _ q = lin⊥ (far ∷ []) (lt j & le (q refl)) (search linear depth 40) tt
-    go false c p _ = lin⊥ (near ∷ []) (lt i & le (p refl)) (search linear depth 40) tt
+    go true false _ q = lin⊥ (upper ∷ []) (lt j & le (q refl)) (search linear depth 40) tt
+    go false c p _ = lin⊥ (lower ∷ []) (lt i & le (p refl)) (search linear depth 40) tt
 
-pub strip-outside : {s near far : ℤ} (n : ℤ) → s ≤ℤ pos 0 → pos 0 ≤ℤ s → (pos 0 ≤ℤ near) ⊎ (far ≤ℤ pos 0) → strip s near far n ≡ record { first = n; last = pos 0 }
+pub strip-outside : {s lower upper : ℤ} (n : ℤ) → s ≤ℤ pos 0 → pos 0 ≤ℤ s → (pos 0 ≤ℤ lower) ⊎ (upper ≤ℤ pos 0) → strip s lower upper n ≡ record { first = n; last = pos 0 }
 unfolding strip
-strip-outside {s} {near} {far} n h k o = ap (λ s. strip s near far n) (≤ℤ-antisym h k) ∙ go (ltZ near (pos 0)) (ltZ (pos 0) far) ltZ-true ltZ-true o
+strip-outside {s} {lower} {upper} n h k o = ap (λ s. strip s lower upper n) (≤ℤ-antisym h k) ∙ go (ltZ lower (pos 0)) (ltZ (pos 0) upper) ltZ-true ltZ-true o
   where
-    go : (b c : Bool) → (b ≡ true → near <ℤ pos 0) → (c ≡ true → pos 0 <ℤ far) → (pos 0 ≤ℤ near) ⊎ (far ≤ℤ pos 0)
+    go : (b c : Bool) → (b ≡ true → lower <ℤ pos 0) → (c ≡ true → pos 0 <ℤ upper) → (pos 0 ≤ℤ lower) ⊎ (upper ≤ℤ pos 0)
         → _≡_ {A = Span} (cond b (cond c (record { first = pos 0; last = n }) (record { first = n; last = pos 0 })) (record { first = n; last = pos 0 })) (record { first = n; last = pos 0 })
     go false c _ _ _ = refl
     go true false _ _ _ = refl
-    go true true p q (inl i) = lin⊥ (near ∷ []) (le i & lt (p refl)) (search linear depth 40) tt
-    go true true p q (inr i) = lin⊥ (far ∷ []) (le i & lt (q refl)) (search linear depth 40) tt
+    go true true p q (inl i) = lin⊥ (lower ∷ []) (le i & lt (p refl)) (search linear depth 40) tt
+    go true true p q (inr i) = lin⊥ (upper ∷ []) (le i & lt (q refl)) (search linear depth 40) tt

@@ -47,5 +47,5 @@ module _ {e : Edge} {c : Cell} (r : Room e c) where
   pub width-within : Within (pos widthTimesExtentLimit) (c .width)
   width-within = record { low = lin≤ (c .width ∷ []) (le width≥0) (search linear depth 40) tt; high = width-high }
 
-  pub half-high : {half : ℤ} → c .width ≡ half +ℤ half → pos 0 ≤ℤ half → half ≤ℤ pos coordinateLimit
+  pub half-high : {half : ℤ} → c .width ≡ half +ℤ half → pos 0 ≤ℤ half → half ≤ℤ pos widthTimesExtentLimit
   half-high {half} m h = lin≤ (c .width ∷ half ∷ []) (eq m & le h & le width-high) (search linear depth 40) tt

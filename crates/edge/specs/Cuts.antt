@@ -17,16 +17,16 @@ use Rattle.edge.specs.declared.Cell.{Cell}
 use Rattle.edge.specs.declared.Span.{Span}
 use Rattle.edge.specs.declared.Samples.{Samples}
 
--- `scale` times over, which is the number of steps to it, or minus that
+-- `scale` times over: where the direction moves, the number of steps to the line, or minus that
 abbrev pub toSide : Axis → ℤ → ℤ
 toSide a side = a .scale *ℤ (side -ℤ a .start)
 
--- The walk has moved by `sign × t` after t steps, and is between the lines from `near` to `far`, both measured from its start. Where it stands still it
+-- The walk has moved by `sign × t` after t steps, and is between the lines `lower` and `upper`, both measured from its start. Where it stands still it
 -- is between them for all n steps, or for none.
 unfoldable pub strip : ℤ → ℤ → ℤ → ℤ → Span
-strip (pos zero) near far n = cond (ltZ near (pos 0)) (cond (ltZ (pos 0) far) (record { first = pos 0; last = n }) (record { first = n; last = pos 0 })) (record { first = n; last = pos 0 })
-strip (pos (suc s)) near far n = record { first = near; last = far }
-strip (negsuc s) near far n = record { first = negℤ far; last = negℤ near }
+strip (pos zero) lower upper n = cond (ltZ lower (pos 0)) (cond (ltZ (pos 0) upper) (record { first = pos 0; last = n }) (record { first = n; last = pos 0 })) (record { first = n; last = pos 0 })
+strip (pos (suc s)) lower upper n = record { first = lower; last = upper }
+strip (negsuc s) lower upper n = record { first = negℤ upper; last = negℤ lower }
 
 abbrev pub stripOf : Axis → ℤ → ℤ → ℤ → Span
 stripOf a side w n = strip (a .sign) (toSide a side) (toSide a side +ℤ a .scale *ℤ w) n
@@ -38,7 +38,7 @@ meet r s n = record { first = max (pos 0) (max (r .first) (s .first)); last = mi
 abbrev pub span : Axis → Axis → Cell → ℤ → Span
 span a b c n = meet (stripOf a (c .left) (c .width) n) (stripOf b (c .top) (c .width) n) n
 
--- any step, where it stands still
+-- (0 where it stands still: there any step would do)
 abbrev pub toMiddle : Axis → ℤ → ℤ → ℤ
 toMiddle a side half = a .sign *ℤ (toSide a side +ℤ a .scale *ℤ half)
 

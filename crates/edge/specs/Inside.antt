@@ -1,13 +1,14 @@
 -- Some part of an edge lies strictly inside a cell, and not only on its sides or beyond them.
 --
--- A step crosses no grid line in its inside, so it lies strictly inside the cell, its ends left out, or has no part there; its middle tells which.
+-- A step crosses no grid line in its inside, so all of it but its ends lies strictly inside the cell, or none does; its middle tells which. (A point is
+-- one step, and its own middle.)
 -- At whole t it would be wrong: a step may join two sides of a cell.
 --
 -- Definitions
 --   Between                 the middle of step t lies strictly between two sides
 --   SomeStepInside          some step of a walk does so in both directions
 --   Inside                  some step of the edge does
---   Contains                one cell lies in another
+--   Contains                the second cell lies in the first
 use Prim.Native.Nat.{ℕ, _<_}
 use lib.IntN.{ℤ, pos, _+ℤ_, _*ℤ_}
 use lib.Signed.{_≤ℤ_, _<ℤ_}

@@ -17,7 +17,9 @@ pub mod OctilinearEdges
 pub mod Reversal
 -- the sum over at most three pieces
 pub mod ClosedForm
--- the walk that the code hands down comes inside where its edge does
+-- the walk that `walk_of` answers comes inside where its edge does
 pub mod WalkInside
+-- cells in cells, and the room that an edge has in each
+pub mod Cells
 -- the slanted edges of 01's letters F and G
 pub mod Letters

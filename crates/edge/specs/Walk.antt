@@ -4,7 +4,7 @@
 --   |dy| × x = |dy| × x0 + sign(dx) × t        and        |dx| × y = |dx| × y0 + sign(dy) × t.
 -- Both are whole numbers that move by at most 1 a step, and at a grid line x = c the first is |dy| × c, a whole number too. So inside a step no
 -- grid line is crossed: there each function that bends at grid lines only is linear, and the trapezoid rule over the steps is the integral itself.
--- Level, upright and point edges are no cases of their own.
+-- Level, upright and point edges are no cases of their own. (01's step, 1/256 pixel, is the unit of coordinates; here a step is one of the walk.)
 --
 -- Definitions
 --   extent, sign               |d|, but 1 for 0; and the sign of d

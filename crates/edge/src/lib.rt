@@ -6,19 +6,19 @@
 //
 // The walk. In N = |dx| × |dy| equal steps, |dy| × x and |dx| × y move by at most 1 a step. So every side and middle of a cell is crossed at a whole
 // step t, found by one product and no division, and each value is a whole number over N. A level, upright or 45-degree edge is walked in unit steps:
-// its values are whole, and nothing is divided at all. The walk is worked out once for an edge and passed by value from cell to cell.
+// its values are whole, and nothing is divided by N. The walk is worked out once for an edge and passed by value from cell to cell.
 //
 // The cuts. The steps inside a cell are consecutive, from the later of two entries to the earlier of two exits. The crossings of the two middles cut
 // them into at most three pieces. On a piece each tent rises or falls steadily, as x and y do,
 //
-//       middle      ___/\___              first .. second .. third .. last
-//       sides      /        \             cut where x, or y, is in the middle of the cell
+//       middle           /\               from side to side: up to the middle, and down again;
+//       sides       ____/  \____          cut where x, or y, is in the middle of the cell
 //
 // so twice the integral of f dg over a piece is (f at its start + f at its end) × (g at its end − g at its start). For h, f is the tent of x and g is y;
-// for v, the tent of y and x; for d, both tents.
+// v is minus that for the tent of y and x; for d, both are tents.
 //
-// An edge that lies in one quarter of the cell is one such piece from end to end, with neither walk nor division. No step is visited, no number passes
-// 64 bits (`specs/Room.antt`), and nothing is rounded but the three values, each on its own.
+// An edge that lies in one quarter of the cell is one such piece from end to end, and its values are whole: no cuts and no division by N. No step is
+// visited, no number passes 64 bits (`specs/Room.antt`), and nothing is rounded but the three values, each on its own.
 
 ghost use mathlib.Core.Path.{_≡_};
 ghost use mathlib.Core.Logic.{_⊎_};
@@ -51,7 +51,8 @@ pub struct Cell {
     pub width: i64,
 }
 
-// The three detail coefficients of a cell: left less right, upper less lower, upper left and lower right less the others.
+// An edge's part of a cell's three detail coefficients. Around a closed contour the parts add up to the area in the left half less that in the right,
+// upper less lower, and upper left and lower right less the other two quarters.
 pub struct Details {
     pub h: i64,
     pub v: i64,
@@ -203,25 +204,25 @@ pub fn walk_of(e: Edge) -> Walk
 
 // ---- the steps inside a cell
 
-// The steps of one direction between two lines, which lie `near` and `far` from its start. Standing still it is between them always or never; on a
+// The steps of one direction between two lines, which lie at `lower` and `upper` from its start. Standing still it is between them always or never; on a
 // line is not between.
-fn strip(s: i64, near: i64, far: i64, n: i64) -> Span
-    requires { ⌜ Within (pos crossingLimit) near × Within (pos crossingLimit) far ⌝ }
-    ensures { λ r. ⌜ r ≡ stripSteps s near far n ⌝ }
+fn strip(s: i64, lower: i64, upper: i64, n: i64) -> Span
+    requires { ⌜ Within (pos crossingLimit) lower × Within (pos crossingLimit) upper ⌝ }
+    ensures { λ r. ⌜ r ≡ stripSteps s lower upper n ⌝ }
 {
     if s > 0 {
         Span {
-            first: near,
-            last: far,
+            first: lower,
+            last: upper,
         }
     } else if s < 0 {
         Span {
-            first: -far,
-            last: -near,
+            first: -upper,
+            last: -lower,
         }
-    } else if near >= 0 {
+    } else if lower >= 0 {
         Span { first: n, last: 0 }
-    } else if far <= 0 {
+    } else if upper <= 0 {
         Span { first: n, last: 0 }
     } else {
         Span { first: 0, last: n }
@@ -233,8 +234,8 @@ fn strip_of(a: Axis, side: i64, width: i64, n: i64) -> Span
     requires { ⌜ AxisRoom a side width ⌝ }
     ensures { λ r. ⌜ r ≡ stripOf a side width n ⌝ }
 {
-    let near = a.scale * (side - a.start);
-    strip(a.sign, near, near + a.scale * width, n)
+    let lower = a.scale * (side - a.start);
+    strip(a.sign, lower, lower + a.scale * width, n)
 }
 
 // The steps from 0 to n that are in both.
@@ -384,11 +385,11 @@ fn round_all(m: Details, n: i64) -> Details
     }
 }
 
-// ---- an edge wholly inside one quarter: no division
+// ---- an edge wholly inside one quarter
 
 // Are p and q both in the first half, or both in the second?
 fn same_half(p: i64, q: i64, side: i64, half: i64) -> bool
-    requires { ⌜ Within (pos coordinateLimit) side × (pos 0 ≤ℤ half) × (half ≤ℤ pos coordinateLimit) ⌝ }
+    requires { ⌜ Within (pos coordinateLimit) side × (pos 0 ≤ℤ half) × (half ≤ℤ pos widthTimesExtentLimit) ⌝ }
     ensures { λ b. ⌜ Shows b (SameHalf side half p q) ⌝ }
 {
     let first = low(p, q);

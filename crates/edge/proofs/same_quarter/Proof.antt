@@ -5,6 +5,7 @@ use lib.IntN.{ℤ, pos}
 use lib.Signed.{_≤ℤ_}
 use mir.Facts.{toZ-ofZ}
 use Rattle.integers.specs.Within.{Within}
+use Rattle.integers.specs.Units.{widthTimesExtentLimit}
 use Rattle.edge.specs.Room.{coordinateLimit}
 use Rattle.edge.specs.Code.{SameHalf}
 use Rattle.edge.proofs.Bits.{back, back-is}
@@ -15,11 +16,11 @@ use Rattle.edge.proofs.same_quarter.Tie as tie
 
 -- what `same_half` asks of a side and of the half
 asked : (s : tie.Start) {side : ℤ} → Within (pos coordinateLimit) side
-    → Within (pos coordinateLimit) (back side) × (pos 0 ≤ℤ back (s .args .half)) × (back (s .args .half) ≤ℤ pos coordinateLimit)
+    → Within (pos coordinateLimit) (back side) × (pos 0 ≤ℤ back (s .args .half)) × (back (s .args .half) ≤ℤ pos widthTimesExtentLimit)
 asked s i =
     let p = s .pre in
     let f = toZ-ofZ (s .fits .half) in
-    (held-within (coordinate i), subst⁻¹ (λ z. pos 0 ≤ℤ z) f (p .2), subst⁻¹ (λ z. z ≤ℤ pos coordinateLimit) f (half-high (p .0) (p .1) (p .2)))
+    (held-within (coordinate i), subst⁻¹ (λ z. pos 0 ≤ℤ z) f (p .2), subst⁻¹ (λ z. z ≤ℤ pos widthTimesExtentLimit) f (half-high (p .0) (p .1) (p .2)))
 
 same-half-requires : tie.Need-same-half-requires
 same-half-requires c κs = let s = c .before .before .before in asked s (s .pre .0 .left)

@@ -11,11 +11,11 @@ use Rattle.edge.proofs.AxisNumbers.{sign-held, diff-held, side-held, wi
 use Rattle.edge.proofs.strip_of.Statement.{statement}
 use Rattle.edge.proofs.strip_of.Tie as tie
 
-sub-near : tie.Need-sub-near
-sub-near c = held-fits tt (diff-held (c .before .before .pre))
+sub-lower : tie.Need-sub-lower
+sub-lower c = held-fits tt (diff-held (c .before .before .pre))
 
-mul-near : tie.Need-mul-near
-mul-near c = held-fits tt (side-held (c .before .before .before .before .pre))
+mul-lower : tie.Need-mul-lower
+mul-lower c = held-fits tt (side-held (c .before .before .before .before .pre))
 
 mul-strip : tie.Need-mul-strip
 mul-strip c = let s = c .before .before .before .before .before .before in held-fits tt (width-held (s .pre) (s .fits .width))
@@ -40,4 +40,4 @@ returns c =
     c .strip .ensures ∙ strip-eq (sign-held r .is) (held-back tt (side-held r) .is) (held-back tt (sum-held r (s .fits .width)) .is) (toZ-ofZ (s .fits .n))
 
 pub strip-of-spec : {M : Type 1} → statement M
-strip-of-spec = tie.close (tie.spec sub-near mul-near mul-strip add-strip strip-requires returns)
+strip-of-spec = tie.close (tie.spec sub-lower mul-lower mul-strip add-strip strip-requires returns)

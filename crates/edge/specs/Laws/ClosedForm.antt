@@ -1,11 +1,11 @@
--- The closed form: where some step of a walk lies strictly inside a cell, its integrals there are sums over at most three pieces, cut where the walk
--- crosses the cell's middle in one direction and in the other. (Where none does, they are 0: the zero law.)
+-- The closed form: where some step of a walk lies strictly inside a cell, h, v and d are sums over at most three pieces, cut where the walk crosses the
+-- cell's middle in one direction and in the other. (Where none does, they are 0: the zero law.)
 --
 -- Main results
 --   ordered                                                   the cuts are steps of the walk, in order
 --   cuts-closed                                               at each step from the first to the last the walk is in the closed cell
 --   near-past-closed, past-near-closed, near-near-closed      the closed form of a walk
---   h-closed, v-closed, d-closed                              and of an edge
+--   cuts-of-inside, h-closed, v-closed, d-closed              and of an edge that comes strictly inside
 use mathlib.Core.Path.{_≡_, sym, _∙_, ap, subst}
 use mathlib.Core.List.{[], _∷_}
 use mathlib.Core.Logic.{_⊎_, inl, inr}
@@ -23,14 +23,14 @@ use Rattle.edge.specs.declared.Axis.{Axis}
 use Rattle.edge.specs.declared.Samples.{Samples}
 use Rattle.edge.specs.Walk.{steps, xAxis, yAxis, past, near}
 use Rattle.edge.specs.Integrals.{along, hNum, vNum, dNum}
-use Rattle.edge.specs.Inside.{Between}
+use Rattle.edge.specs.Inside.{Between, Inside}
 use Rattle.edge.specs.Lemmas.Ends.{Steady, steady-within, x-steady, y-steady}
 use Rattle.edge.specs.Lemmas.Steps.{exchanged, Outside, Rests, between-or-outside, between-ends, outside-rests}
 use Rattle.edge.specs.Code.{Closed}
 use Rattle.edge.specs.Lemmas.Runs.{three, Ordered, three-pieces, upto-all}
 use Rattle.edge.specs.Laws.Zero.{idle-near-past, idle-near-near}
 use Rattle.edge.specs.Cuts.{span, cuts, toMiddle}
-use Rattle.edge.specs.Lemmas.Crossings.{span-steps, span-low, span-high}
+use Rattle.edge.specs.Lemmas.Crossings.{span-steps, span-low, span-high, inside-span}
 use Rattle.edge.specs.Lemmas.OneDirection.{BothLinear, both-linear}
 
 abbrev pub threeAt : (ℤ → ℤ) → (ℤ → ℤ) → Samples → ℤ
@@ -160,6 +160,10 @@ module _ (a b : Axis) (sa : Steady a) (sb : Steady b) (c : Cell) (half : ℤ) (e
 -- ---- an edge
 abbrev pub edgeCuts : Edge → Cell → ℤ → Samples
 edgeCuts e c half = cuts (xAxis e) (yAxis e) c half (pos (steps e))
+
+-- the hypothesis of what follows, for an edge that comes strictly inside
+pub cuts-of-inside : (e : Edge) (c : Cell) (half : ℤ) → Inside e c → edgeCuts e c half .first <ℤ edgeCuts e c half .fourth
+cuts-of-inside e c half i = inside-span (xAxis e) (yAxis e) (x-steady e) (y-steady e) c i
 
 module _ (e : Edge) (c : Cell) (half : ℤ) (even : c .width ≡ half +ℤ half) (hh : pos 0 ≤ℤ half)
     (inside : edgeCuts e c half .first <ℤ edgeCuts e c half .fourth) where

@@ -1,6 +1,6 @@
 -- An edge that is level, upright or at 45 degrees has whole values in a cell of even width, and so rounding keeps them.
 --
--- Such an edge is walked in max(|dx|, |dy|) unit steps, after each of which x and y are whole numbers. Its walk in |dx| × |dy| steps is the unit walk
+-- Such an edge is walked in max(|dx|, |dy|) unit steps (a point in one), after each of which x and y are whole numbers. Its walk in |dx| × |dy| steps is the unit walk
 -- in a finer scale: |dy| times as fine in x, and |dx| times in y.
 --
 -- Main results

@@ -1,4 +1,4 @@
--- The walk that the code hands down, and its edge: its steps lie strictly inside a cell just where some part of the edge does.
+-- The walk that `walk_of` answers, and its edge: its steps lie strictly inside a cell just where some part of the edge does.
 --
 -- Main results
 --   span-of-inside, inside-of-span        first < last just where the edge comes strictly inside

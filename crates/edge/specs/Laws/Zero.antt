@@ -5,6 +5,8 @@
 --   inside-wider                               what lies strictly inside a cell lies strictly inside each cell that contains it
 --   idle-near-past, idle-near-near             a step outside adds nothing to h, v or d
 --   h-zero, v-zero, d-zero, details-zero       no part strictly inside: each is 0
+--   not-inside-within, h-zero-within,
+--   v-zero-within, d-zero-within,
 --   details-zero-within                        and in each cell inside this one
 use mathlib.Core.Path.{_≡_, sym, _∙_, ap, ap₂}
 use mathlib.Core.List.{[], _∷_}
@@ -128,5 +130,19 @@ module _ (e : Edge) (c : Cell) (hw : pos 0 ≤ℤ c .width) (none : Inside e c �
   unfolding details
   details-zero = details-eq (zero h-zero) (zero v-zero) (zero d-zero)
 
-pub details-zero-within : (e : Edge) {c b : Cell} → Contains c b → pos 0 ≤ℤ b .width → (Inside e c → ⊥) → details e b ≡ record { h = pos 0; v = pos 0; d = pos 0 }
-details-zero-within e {c} {b} k hw none = details-zero e b hw (λ i. none (inside-wider e k i))
+-- ---- in each cell inside the one that the edge does not come into
+module _ (e : Edge) {c b : Cell} (k : Contains c b) (hw : pos 0 ≤ℤ b .width) (none : Inside e c → ⊥) where
+  pub not-inside-within : Inside e b → ⊥
+  not-inside-within i = none (inside-wider e k i)
+
+  pub h-zero-within : hNum e b ≡ pos 0
+  h-zero-within = h-zero e b hw not-inside-within
+
+  pub v-zero-within : vNum e b ≡ pos 0
+  v-zero-within = v-zero e b hw not-inside-within
+
+  pub d-zero-within : dNum e b ≡ pos 0
+  d-zero-within = d-zero e b hw not-inside-within
+
+  pub details-zero-within : details e b ≡ record { h = pos 0; v = pos 0; d = pos 0 }
+  details-zero-within = details-zero e b hw not-inside-within

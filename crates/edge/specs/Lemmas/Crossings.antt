@@ -39,17 +39,17 @@ low-of-odd a b h = go (≤ℤ-or-<ℤ a b)
     go (inr k) = lin⊥ (a ∷ b ∷ []) (lt h & lt k) (search linear depth 40) tt
 
 module _ (k x side w n : ℤ) where
-  abbrev near : ℤ
-  near = k *ℤ (side -ℤ x)
+  abbrev lower : ℤ
+  lower = k *ℤ (side -ℤ x)
 
-  abbrev far : ℤ
-  far = k *ℤ (side -ℤ x) +ℤ k *ℤ w
+  abbrev upper : ℤ
+  upper = k *ℤ (side -ℤ x) +ℤ k *ℤ w
 
-  steps-forward : StepsWith (Between (record { scale = k; start = x; sign = pos 1 }) side w) n (record { first = near; last = far })
+  steps-forward : StepsWith (Between (record { scale = k; start = x; sign = pos 1 }) side w) n (record { first = lower; last = upper })
   steps-forward = record {
     to = λ t h j b. (
-      low-of-odd near t (lin< (k ∷ x ∷ side ∷ t ∷ []) (lt (b .after)) (search linear depth 40) tt),
-      low-of-odd (t +ℤ pos 1) far (lin< (k ∷ x ∷ side ∷ w ∷ t ∷ []) (lt (b .before)) (search linear depth 40) tt),
+      low-of-odd lower t (lin< (k ∷ x ∷ side ∷ t ∷ []) (lt (b .after)) (search linear depth 40) tt),
+      low-of-odd (t +ℤ pos 1) upper (lin< (k ∷ x ∷ side ∷ w ∷ t ∷ []) (lt (b .before)) (search linear depth 40) tt),
     );
     from = λ t h j i l. record {
       after = lin< (k ∷ x ∷ side ∷ t ∷ []) (le i) (search linear depth 40) tt;
@@ -57,11 +57,11 @@ module _ (k x side w n : ℤ) where
     };
   }
 
-  steps-backward : StepsWith (Between (record { scale = k; start = x; sign = negsuc 0 }) side w) n (record { first = negℤ far; last = negℤ near })
+  steps-backward : StepsWith (Between (record { scale = k; start = x; sign = negsuc 0 }) side w) n (record { first = negℤ upper; last = negℤ lower })
   steps-backward = record {
     to = λ t h j b. (
-      low-of-odd (negℤ far) t (lin< (k ∷ x ∷ side ∷ w ∷ t ∷ []) (lt (b .before)) (search linear depth 40) tt),
-      low-of-odd (t +ℤ pos 1) (negℤ near) (lin< (k ∷ x ∷ side ∷ t ∷ []) (lt (b .after)) (search linear depth 40) tt),
+      low-of-odd (negℤ upper) t (lin< (k ∷ x ∷ side ∷ w ∷ t ∷ []) (lt (b .before)) (search linear depth 40) tt),
+      low-of-odd (t +ℤ pos 1) (negℤ lower) (lin< (k ∷ x ∷ side ∷ t ∷ []) (lt (b .after)) (search linear depth 40) tt),
     );
     from = λ t h j i l. record {
       after = lin< (k ∷ x ∷ side ∷ t ∷ []) (le l) (search linear depth 40) tt;
@@ -74,7 +74,7 @@ module _ (k x side w n : ℤ) where
       → StepsWith (Between (record { scale = k; start = x; sign = pos 0 }) side w) n (record { first = n; last = pos 0 })
   steps-none none = record { to = λ t h j b. absurd (none t b); from = λ t h j i l. lin⊥ (t ∷ n ∷ []) (le i & le j) (search linear depth 40) tt }
 
-  steps-still : (b c : Bool) → (b ≡ true → near <ℤ pos 0) → (b ≡ false → pos 0 ≤ℤ near) → (c ≡ true → pos 0 <ℤ far) → (c ≡ false → far ≤ℤ pos 0)
+  steps-still : (b c : Bool) → (b ≡ true → lower <ℤ pos 0) → (b ≡ false → pos 0 ≤ℤ lower) → (c ≡ true → pos 0 <ℤ upper) → (c ≡ false → upper ≤ℤ pos 0)
       → StepsWith (Between (record { scale = k; start = x; sign = pos 0 }) side w) n
       (cond b (cond c (record { first = pos 0; last = n }) (record { first = n; last = pos 0 })) (record { first = n; last = pos 0 }))
   steps-still false c _ h _ _ = steps-none (λ t b. lin⊥ (k ∷ x ∷ side ∷ t ∷ []) (le (h refl) & lt (b .after)) (search linear depth 40) tt)
@@ -87,11 +87,11 @@ module _ (k x side w n : ℤ) where
     };
   }
 
-  steps-of : {s : ℤ} → Direction s → StepsWith (Between (record { scale = k; start = x; sign = s }) side w) n (strip s near far n)
+  steps-of : {s : ℤ} → Direction s → StepsWith (Between (record { scale = k; start = x; sign = s }) side w) n (strip s lower upper n)
   unfolding strip
   steps-of forward = steps-forward
   steps-of backward = steps-backward
-  steps-of still = steps-still (ltZ near (pos 0)) (ltZ (pos 0) far) ltZ-true ltZ-false ltZ-true ltZ-false
+  steps-of still = steps-still (ltZ lower (pos 0)) (ltZ (pos 0) upper) ltZ-true ltZ-false ltZ-true ltZ-false
 
 pub strip-steps : (a : Axis) → Steady a → (side w n : ℤ) → StepsWith (Between a side w) n (stripOf a side w n)
 strip-steps a s side w n = steps-of (a .scale) (a .start) side w n (s .signed)

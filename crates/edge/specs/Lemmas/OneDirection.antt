@@ -67,7 +67,7 @@ near-linear a side half {w} e r (behind f) = record {
       ∙ ring (a .scale ∷ a .start ∷ a .sign ∷ side ∷ w ∷ t ∷ []) (search read depth 40) tt;
 }
 
-one-half : (k x side half : ℤ) {s u v : ℤ} → Direction s → (v ≤ℤ (s *ℤ (k *ℤ (side -ℤ x) +ℤ k *ℤ half))) ⊎ ((s *ℤ (k *ℤ (side -ℤ x) +ℤ k *ℤ half)) ≤ℤ u)
+one-half : (k x side half : ℤ) {s u v : ℤ} → Direction s → (v ≤ℤ toMiddle (record { scale = k; start = x; sign = s }) side half) ⊎ (toMiddle (record { scale = k; start = x; sign = s }) side half ≤ℤ u)
     → OneHalf (record { scale = k; start = x; sign = s }) side half u v
 one-half k x side half {s} {u} {v} forward (inl h) = before (λ t i j. lin≤ (k ∷ x ∷ side ∷ half ∷ t ∷ v ∷ []) (le h & le j) (search linear depth 40) tt)
 one-half k x side half {s} {u} {v} forward (inr h) = behind (λ t i j. lin≤ (k ∷ x ∷ side ∷ half ∷ t ∷ u ∷ []) (le h & le i) (search linear depth 40) tt)

@@ -1,0 +1,107 @@
+-- Cells in cells, as the quadtree has them: what one contains, and the room that an edge on a sheet has in each.
+--
+-- Main results
+--   contains-refl, contains-trans, contains-quarter      down the quadtree every cell lies in the one that it began with
+--   sheet-room                                           an edge on a sheet has room in each even cell of it whose width times the sheet's is in range
+use mathlib.Core.Path.{_≡_}
+use mathlib.Core.List.{[], _∷_}
+use Prim.Native.Nat.{ℕ, zero, suc, _<_}
+use native.Mathlib.Omega.{arith}
+use lib.IntN.{ℤ, pos, negsuc, _+ℤ_, _-ℤ_, _*ℤ_}
+use lib.Signed.{_≤ℤ_}
+use Rattle.integers.specs.Units.{widthTimesExtentLimit}
+use Rattle.integers.specs.Order.{≤ℤ-trans, ≤ℤ-mul}
+use Rattle.integers.specs.Linear.{le, eq, _&_, none!, linear, lin≤}
+use Rattle.integers.specs.Within.{Within}
+use Rattle.edge.specs.declared.Edge.{Edge}
+use Rattle.edge.specs.declared.Cell.{Cell}
+use Rattle.edge.specs.Walk.{extent, dx, dy}
+use Rattle.edge.specs.Inside.{Contains}
+use Rattle.edge.specs.Room.{coordinateLimit, Even, Room}
+use Rattle.edge.specs.Laws.Quarter.{quarter}
+use Rattle.edge.specs.Laws.WholeTile.{OnRange, OnCell}
+
+-- ---- cells in cells
+pub contains-refl : (c : Cell) → Contains c c
+contains-refl c = record {
+  left = lin≤ (c .left ∷ []) none! (search linear depth 40) tt;
+  right = lin≤ (c .left ∷ c .width ∷ []) none! (search linear depth 40) tt;
+  top = lin≤ (c .top ∷ []) none! (search linear depth 40) tt;
+  bottom = lin≤ (c .top ∷ c .width ∷ []) none! (search linear depth 40) tt;
+}
+
+pub contains-trans : {a b c : Cell} → Contains a b → Contains b c → Contains a c
+contains-trans p q = record {
+  left = ≤ℤ-trans (p .left) (q .left);
+  right = ≤ℤ-trans (q .right) (p .right);
+  top = ≤ℤ-trans (p .top) (q .top);
+  bottom = ≤ℤ-trans (q .bottom) (p .bottom);
+}
+
+-- one direction: half number i, 0 or 1, is in the whole
+half-in : (side : ℤ) {w half : ℤ} → w ≡ half +ℤ half → pos 0 ≤ℤ half → (i : ℕ) → i < 2
+    → (side ≤ℤ (side +ℤ pos i *ℤ half)) × ((side +ℤ pos i *ℤ half +ℤ half) ≤ℤ (side +ℤ w))
+half-in side {w} {half} e h zero k =
+    (lin≤ (side ∷ half ∷ []) none! (search linear depth 40) tt, lin≤ (side ∷ half ∷ w ∷ []) (eq e & le h) (search linear depth 40) tt)
+half-in side {w} {half} e h (suc zero) k =
+    (lin≤ (side ∷ half ∷ []) (le h) (search linear depth 40) tt, lin≤ (side ∷ half ∷ w ∷ []) (eq e) (search linear depth 40) tt)
+half-in side e h (suc (suc i)) k = absurd (omega arith)
+
+pub contains-quarter : (c : Cell) (half : ℤ) → c .width ≡ half +ℤ half → pos 0 ≤ℤ half → (i j : ℕ) → i < 2 → j < 2 → Contains c (quarter c half i j)
+contains-quarter c half e h i j k l =
+    let x = half-in (c .left) e h i k in
+    let y = half-in (c .top) e h j l in
+    record { left = x .0; right = x .1; top = y .0; bottom = y .1 }
+
+-- ---- room
+-- the extent of a difference of two coordinates on a range of width w, which is at least 1
+extent-on : (d : ℤ) {w : ℤ} → pos 1 ≤ℤ w → Within w d → pos (extent d) ≤ℤ w
+unfolding extent
+extent-on (pos zero) h p = h
+extent-on (pos (suc n)) h p = p .high
+extent-on (negsuc n) {w} h p = lin≤ (pos n ∷ w ∷ []) (le (p .low)) (search linear depth 40) tt
+
+difference-on : {side w p q : ℤ} → OnRange side w p → OnRange side w q → Within w (q -ℤ p)
+difference-on {side} {w} {p} {q} i j = record {
+  low = lin≤ (side ∷ w ∷ p ∷ q ∷ []) (le (i .high) & le (j .low)) (search linear depth 40) tt;
+  high = lin≤ (side ∷ w ∷ p ∷ q ∷ []) (le (i .low) & le (j .high)) (search linear depth 40) tt;
+}
+
+-- a sheet whose sides are in range
+pub record Sheet (s : Cell) : Type 0 where
+  pub width : pos 1 ≤ℤ s .width
+  pub left : Within (pos coordinateLimit) (s .left)
+  pub right : (s .left +ℤ s .width) ≤ℤ pos coordinateLimit
+  pub top : Within (pos coordinateLimit) (s .top)
+  pub bottom : (s .top +ℤ s .width) ≤ℤ pos coordinateLimit
+
+coordinate-on : {side w p : ℤ} → Within (pos coordinateLimit) side → (side +ℤ w) ≤ℤ pos coordinateLimit → OnRange side w p → Within (pos coordinateLimit) p
+coordinate-on {side} {w} {p} i j o = record {
+  low = ≤ℤ-trans (i .low) (o .low);
+  high = ≤ℤ-trans (o .high) j;
+}
+
+-- a side of a cell in the sheet is on it too
+side-on : {side w side′ w′ : ℤ} → pos 0 ≤ℤ w′ → side ≤ℤ side′ → (side′ +ℤ w′) ≤ℤ (side +ℤ w) → OnRange side w side′
+side-on {side} {w} {side′} {w′} h i j = record { low = i; high = lin≤ (side ∷ w ∷ side′ ∷ w′ ∷ []) (le h & le j) (search linear depth 40) tt }
+
+pub sheet-room : {s c : Cell} {e : Edge} → Sheet s → OnCell s e → Contains s c → Even (c .width) → (s .width *ℤ c .width) ≤ℤ pos widthTimesExtentLimit → Room e c
+sheet-room {s} {c} {e} t o k v m = record {
+  edge = record {
+    x0 = coordinate-on (t .left) (t .right) (o .x0);
+    y0 = coordinate-on (t .top) (t .bottom) (o .y0);
+    x1 = coordinate-on (t .left) (t .right) (o .x1);
+    y1 = coordinate-on (t .top) (t .bottom) (o .y1);
+  };
+  left = coordinate-on (t .left) (t .right) (side-on w≥0 (k .left) (k .right));
+  top = coordinate-on (t .top) (t .bottom) (side-on w≥0 (k .top) (k .bottom));
+  even = v;
+  wide = product (dx e) (difference-on (o .x0) (o .x1));
+  tall = product (dy e) (difference-on (o .y0) (o .y1));
+}
+  where
+    w≥0 : pos 0 ≤ℤ c .width
+    w≥0 = lin≤ (c .width ∷ v .half ∷ []) (le (v .half≥0) & eq (v .twice)) (search linear depth 40) tt
+
+    product : (d : ℤ) → Within (s .width) d → (pos (extent d) *ℤ c .width) ≤ℤ pos widthTimesExtentLimit
+    product d p = lin≤ (pos (extent d) ∷ s .width ∷ c .width ∷ []) (le (≤ℤ-mul (extent-on d (t .width) p) w≥0) & le m) (search linear depth 40) tt
