@@ -21,9 +21,8 @@ use Rattle.integers.specs.Linear.{le, eq, _&_, none!, linear, lin≤}
 use Rattle.integers.specs.Within.{Within, within-le, within-mul, within-self}
 use Rattle.edge.specs.declared.Axis.{Axis}
 use Rattle.edge.specs.declared.Cell.{Cell}
-use Rattle.edge.specs.declared.Edge.{Edge}
 use Rattle.edge.specs.declared.Walk.{Walk}
-use Rattle.edge.specs.Walk.{extent, sign, dx, dy, ax, ay, steps, xAxis, yAxis}
+use Rattle.edge.specs.Walk.{extent, sign, dx, dy, steps}
 use Rattle.edge.specs.Lemmas.Ends.{steps-pos, direction, direction-within}
 use Rattle.edge.specs.Octilinear.{unitSteps}
 use Rattle.edge.specs.Room.{coordinateLimit, extentLimit, crossingLimit, Measured, Room}
@@ -48,35 +47,25 @@ unit-room d {start} {side} {w} i j h k = record {
   wide = lin≤ (w ∷ []) (le k) (search linear depth 40) tt;
 }
 
-module _ {e : Edge} {c : Cell} (r : Room e c) where
-  fine-x : AxisRoom (xAxis e) (c .left) (c .width)
-  fine-x = record {
-    scaled = nonneg (ay e);
-    scale = extent-range (r .edge .y0) (r .edge .y1) .high;
-    signed = direction-within (direction (dx e));
-    start = r .edge .x0;
-    line = r .left;
-    width = width≥0 r;
-    wide = r .tall;
-  }
-
-  fine-y : AxisRoom (yAxis e) (c .top) (c .width)
-  fine-y = record {
-    scaled = nonneg (ax e);
-    scale = extent-range (r .edge .x0) (r .edge .x1) .high;
-    signed = direction-within (direction (dy e));
-    start = r .edge .y0;
-    line = r .top;
-    width = width≥0 r;
-    wide = r .wide;
-  }
+-- scaled by the extent of the other direction, which goes from u to v
+fine-room : (d : ℤ) {u v start side w : ℤ} → Within (pos coordinateLimit) u → Within (pos coordinateLimit) v → Within (pos coordinateLimit) start → Within (pos coordinateLimit) side
+    → pos 0 ≤ℤ w → (pos (extent (v -ℤ u)) *ℤ w) ≤ℤ pos widthTimesExtentLimit → AxisRoom (record { scale = pos (extent (v -ℤ u)); start = start; sign = sign d }) side w
+fine-room d {u} {v} i j k l h p = record {
+  scaled = nonneg (extent (v -ℤ u));
+  scale = extent-range i j .high;
+  signed = direction-within (direction d);
+  start = k;
+  line = l;
+  width = h;
+  wide = p;
+}
 
 pub x-room : {w : Walk} {c : Cell} → IsWalk w → Room (w .edge) c → AxisRoom (w .x) (c .left) (c .width)
-x-room {w} {c} (fine o e) r = subst⁻¹ (λ (z : Walk). AxisRoom (z .x) (c .left) (c .width)) e (fine-x r)
+x-room {w} {c} (fine o e) r = subst⁻¹ (λ (z : Walk). AxisRoom (z .x) (c .left) (c .width)) e (fine-room (dx (w .edge)) (r .edge .y0) (r .edge .y1) (r .edge .x0) (r .left) (width≥0 r) (r .tall))
 x-room {w} {c} (unit s e) r = subst⁻¹ (λ (z : Walk). AxisRoom (z .x) (c .left) (c .width)) e (unit-room (dx (w .edge)) (r .edge .x0) (r .left) (width≥0 r) (width-high r))
 
 pub y-room : {w : Walk} {c : Cell} → IsWalk w → Room (w .edge) c → AxisRoom (w .y) (c .top) (c .width)
-y-room {w} {c} (fine o e) r = subst⁻¹ (λ (z : Walk). AxisRoom (z .y) (c .top) (c .width)) e (fine-y r)
+y-room {w} {c} (fine o e) r = subst⁻¹ (λ (z : Walk). AxisRoom (z .y) (c .top) (c .width)) e (fine-room (dy (w .edge)) (r .edge .x0) (r .edge .x1) (r .edge .y0) (r .top) (width≥0 r) (r .wide))
 y-room {w} {c} (unit s e) r = subst⁻¹ (λ (z : Walk). AxisRoom (z .y) (c .top) (c .width)) e (unit-room (dy (w .edge)) (r .edge .y0) (r .top) (width≥0 r) (width-high r))
 
 pub half-room : {a : Axis} {side w half : ℤ} → w ≡ half +ℤ half → pos 0 ≤ℤ half → AxisRoom a side w → AxisRoom a side half
