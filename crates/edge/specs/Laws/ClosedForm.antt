@@ -22,7 +22,7 @@ use Rattle.edge.specs.declared.Cell.{Cell}
 use Rattle.edge.specs.declared.Axis.{Axis}
 use Rattle.edge.specs.declared.Samples.{Samples}
 use Rattle.edge.specs.Walk.{steps, xAxis, yAxis, past, near}
-use Rattle.edge.specs.Integrals.{along, hNum, vNum, dNum}
+use Rattle.edge.specs.Integrals.{along, hOn, dOn, hNum, vNum, dNum}
 use Rattle.edge.specs.Inside.{Between, Inside}
 use Rattle.edge.specs.Lemmas.Ends.{Steady, steady-within, x-steady, y-steady}
 use Rattle.edge.specs.Lemmas.Steps.{exchanged, Outside, Rests, between-or-outside, between-ends, outside-rests}
@@ -139,7 +139,7 @@ module _ (a b : Axis) (sa : Steady a) (sb : Steady b) (c : Cell) (half : ℤ) (e
   ly = both-linear b sb (c .top) half even p≤q (ordered .a≥p) (ordered .b≥a) (ordered .q≥b) (record { at = λ t i j. cuts-closed t i j .1 })
       (min-≤ʳ mx my) (max-≥ʳ mx my) middle-y
 
-  pub near-past-closed : along (near a (c .left) w) (past b (c .top) w) n ≡ threeAt (near a (c .left) w) (past b (c .top) w) (cuts a b c half (pos n))
+  pub near-past-closed : hOn a b c n ≡ threeAt (near a (c .left) w) (past b (c .top) w) (cuts a b c half (pos n))
   near-past-closed =
       sym (upto-all (near a (c .left) w) (past b (c .top) w) n)
       ∙ three-pieces (near a (c .left) w) (past b (c .top) w) ordered (record { none = λ t h j. idle-near-past (rests-early t h j) })
@@ -151,7 +151,7 @@ module _ (a b : Axis) (sa : Steady a) (sb : Steady b) (c : Cell) (half : ℤ) (e
       ∙ three-pieces (near b (c .top) w) (past a (c .left) w) ordered (record { none = λ t h j. idle-near-past (exchanged (rests-early t h j)) })
       (ly .tented) (lx .whole) (record { none = λ t h j. idle-near-past (exchanged (rests-late t h j)) })
 
-  pub near-near-closed : along (near a (c .left) w) (near b (c .top) w) n ≡ threeAt (near a (c .left) w) (near b (c .top) w) (cuts a b c half (pos n))
+  pub near-near-closed : dOn a b c n ≡ threeAt (near a (c .left) w) (near b (c .top) w) (cuts a b c half (pos n))
   near-near-closed =
       sym (upto-all (near a (c .left) w) (near b (c .top) w) n)
       ∙ three-pieces (near a (c .left) w) (near b (c .top) w) ordered (record { none = λ t h j. idle-near-near (rests-early t h j) })

@@ -25,7 +25,7 @@ use Rattle.edge.specs.declared.Axis.{Axis}
 use Rattle.edge.specs.Octilinear.{Octilinear, level, upright, diagonal, unitX, unitY, unitSteps}
 use Rattle.edge.specs.Walk.{extent, sign, dx, dy, ax, ay, steps, xAxis, yAxis, past, near}
 use Rattle.edge.specs.Lemmas.Ends.{rounded-whole, extent-pos, extent-neg, extent-zero, sign-zero, direction, direction-within}
-use Rattle.edge.specs.Integrals.{along, areaNum, hNum, vNum, dNum}
+use Rattle.edge.specs.Integrals.{along, areaOn, hOn, vOn, dOn, areaNum, hNum, vNum, dNum}
 use Rattle.edge.specs.Inside.{SomeStepInside, Inside}
 use Rattle.edge.specs.Laws.Refinement.{finer, over, Pace, moving, standing, Subdivided, Piecewise, clamp-piecewise, tent-piecewise, even-nonneg, along-finer}
 use Rattle.edge.specs.Laws.InsideRefinement.{inside-finer, inside-coarser}
@@ -38,16 +38,16 @@ diagonal-up {e} h = diagonal (ap extent h ∙ extent-neg (dy e))
 
 -- the sums of `areaNum`, `hNum`, `vNum` and `dNum` along it
 abbrev pub unitArea : Edge → Cell → ℤ
-unitArea e c = along (past (unitX e) (c .left) (c .width)) (past (unitY e) (c .top) (c .width)) (unitSteps e)
+unitArea e c = areaOn (unitX e) (unitY e) c (unitSteps e)
 
 abbrev pub unitH : Edge → Cell → ℤ
-unitH e c = along (near (unitX e) (c .left) (c .width)) (past (unitY e) (c .top) (c .width)) (unitSteps e)
+unitH e c = hOn (unitX e) (unitY e) c (unitSteps e)
 
 abbrev pub unitV : Edge → Cell → ℤ
-unitV e c = negℤ (along (near (unitY e) (c .top) (c .width)) (past (unitX e) (c .left) (c .width)) (unitSteps e))
+unitV e c = vOn (unitX e) (unitY e) c (unitSteps e)
 
 abbrev pub unitD : Edge → Cell → ℤ
-unitD e c = along (near (unitX e) (c .left) (c .width)) (near (unitY e) (c .top) (c .width)) (unitSteps e)
+unitD e c = dOn (unitX e) (unitY e) c (unitSteps e)
 
 -- the edge's walk takes `each` steps for one unit step
 record Subdivision (e : Edge) : Type 0 where

@@ -30,7 +30,7 @@ use Rattle.edge.specs.declared.Cell.{Cell}
 use Rattle.edge.specs.declared.Axis.{Axis}
 use Rattle.edge.specs.Walk.{dx, dy, ax, ay, steps, xAxis, yAxis, beyond, past, near}
 use Rattle.edge.specs.Lemmas.Ends.{direction, direction-within}
-use Rattle.edge.specs.Integrals.{along, areaNum, hNum, vNum, dNum}
+use Rattle.edge.specs.Integrals.{along, areaOn, hOn, vOn, dOn, areaNum, hNum, vNum, dNum}
 
 -- ---- sums
 -- f goes from k F(i) to k F(i + 1) in r steps of F(i + 1) − F(i) each. So k is r, or F stands still; then k may be anything.
@@ -146,22 +146,22 @@ along-finer p q {a = a} {b} ca cb x y n = S-finer (over-finer p a x ca) (over-fi
 
 module _ (e : Edge) (c : Cell) (r : ℕ) where
   pub area-finer : pos 0 ≤ℤ c .width
-      → along (past (finer r (xAxis e)) (c .left) (c .width)) (past (finer r (yAxis e)) (c .top) (c .width)) (steps e * r) ≡ pos (r * r) *ℤ areaNum e c
+      → areaOn (finer r (xAxis e)) (finer r (yAxis e)) c (steps e * r) ≡ pos (r * r) *ℤ areaNum e c
   unfolding areaNum
   area-finer h = along-finer (clamp-piecewise h) (clamp-piecewise h) (x-subdivided e r) (y-subdivided e r) (c .left) (c .top) (steps e)
 
   -- where the middle of the cell is a whole number
   module _ {half : ℤ} (w : c .width ≡ half +ℤ half) (h : pos 0 ≤ℤ half) where
-    pub h-finer : along (near (finer r (xAxis e)) (c .left) (c .width)) (past (finer r (yAxis e)) (c .top) (c .width)) (steps e * r) ≡ pos (r * r) *ℤ hNum e c
+    pub h-finer : hOn (finer r (xAxis e)) (finer r (yAxis e)) c (steps e * r) ≡ pos (r * r) *ℤ hNum e c
     unfolding hNum
     h-finer = along-finer (tent-piecewise w h) (clamp-piecewise (even-nonneg w h)) (x-subdivided e r) (y-subdivided e r) (c .left) (c .top) (steps e)
 
-    pub v-finer : negℤ (along (near (finer r (yAxis e)) (c .top) (c .width)) (past (finer r (xAxis e)) (c .left) (c .width)) (steps e * r)) ≡ pos (r * r) *ℤ vNum e c
+    pub v-finer : vOn (finer r (xAxis e)) (finer r (yAxis e)) c (steps e * r) ≡ pos (r * r) *ℤ vNum e c
     unfolding vNum
     v-finer =
         ap negℤ (along-finer (tent-piecewise w h) (clamp-piecewise (even-nonneg w h)) (y-subdivided e r) (x-subdivided e r) (c .top) (c .left) (steps e))
         ∙ ring (pos r ∷ along (near (yAxis e) (c .top) (c .width)) (past (xAxis e) (c .left) (c .width)) (steps e) ∷ []) (search read depth 40) tt
 
-    pub d-finer : along (near (finer r (xAxis e)) (c .left) (c .width)) (near (finer r (yAxis e)) (c .top) (c .width)) (steps e * r) ≡ pos (r * r) *ℤ dNum e c
+    pub d-finer : dOn (finer r (xAxis e)) (finer r (yAxis e)) c (steps e * r) ≡ pos (r * r) *ℤ dNum e c
     unfolding dNum
     d-finer = along-finer (tent-piecewise w h) (tent-piecewise w h) (x-subdivided e r) (y-subdivided e r) (c .left) (c .top) (steps e)

@@ -23,7 +23,7 @@ use Rattle.edge.specs.declared.Edge.{Edge}
 use Rattle.edge.specs.declared.Cell.{Cell}
 use Rattle.edge.specs.declared.Axis.{Axis}
 use Rattle.edge.specs.Walk.{ax, ay, steps, xAxis, yAxis, past, near}
-use Rattle.edge.specs.Integrals.{along, hNum, vNum, dNum}
+use Rattle.edge.specs.Integrals.{along, hOn, dOn, hNum, vNum, dNum}
 use Rattle.edge.specs.Inside.{Between, SomeStepInside, Inside, Contains}
 use Rattle.edge.specs.Rounded.{details}
 use Rattle.edge.specs.Lemmas.Records.{details-eq}
@@ -97,13 +97,13 @@ module _ {a b : Axis} {c : Cell} {n : ℕ} (sa : Steady a) (sb : Steady b) (hw :
       go (inl o) = inl (outside-rests a (c .left) (c .width) t (≤ℤ-mul-nonneg (sa .scaled) hw) o)
       go (inr o) = inr (outside-rests b (c .top) (c .width) t (≤ℤ-mul-nonneg (sb .scaled) hw) o)
 
-  pub near-past-zero : along (near a (c .left) (c .width)) (past b (c .top) (c .width)) n ≡ pos 0
+  pub near-past-zero : hOn a b c n ≡ pos 0
   near-past-zero = idle-zero (near a (c .left) (c .width)) (past b (c .top) (c .width)) n (record { none = λ t h k. idle-near-past (rests t h k) })
 
   pub past-near-zero : along (near b (c .top) (c .width)) (past a (c .left) (c .width)) n ≡ pos 0
   past-near-zero = idle-zero (near b (c .top) (c .width)) (past a (c .left) (c .width)) n (record { none = λ t h k. idle-near-past (exchanged (rests t h k)) })
 
-  pub near-near-zero : along (near a (c .left) (c .width)) (near b (c .top) (c .width)) n ≡ pos 0
+  pub near-near-zero : dOn a b c n ≡ pos 0
   near-near-zero = idle-zero (near a (c .left) (c .width)) (near b (c .top) (c .width)) n (record { none = λ t h k. idle-near-near (rests t h k) })
 
 -- ---- of an edge
