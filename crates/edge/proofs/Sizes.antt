@@ -7,18 +7,18 @@
 --   half-high                     and of half of it
 use mathlib.Core.Path.{_≡_}
 use mathlib.Core.List.{[], _∷_}
-use Prim.Native.Nat.{zero, suc}
-use lib.IntN.{ℤ, pos, negsuc, _+ℤ_, _-ℤ_}
+use lib.IntN.{ℤ, pos, _+ℤ_, _-ℤ_}
 use lib.Signed.{_≤ℤ_}
-use Rattle.integers.specs.Order.{positive, add-one-≤ℤ, ≤ℤ-mul}
+use Rattle.integers.specs.Order.{nonneg, positive, add-one-≤ℤ, ≤ℤ-mul}
 use Rattle.integers.specs.Linear.{le, eq, _&_, none!, linear, lin≤}
 use Rattle.integers.specs.Units.{widthTimesExtentLimit}
-use Rattle.integers.specs.Within.{Within, within-neg}
+use Rattle.integers.specs.Within.{Within, within-le, within-self}
 use Rattle.edge.specs.declared.Edge.{Edge}
 use Rattle.edge.specs.declared.Cell.{Cell}
 use Rattle.edge.specs.Walk.{extent, dx, ax}
 use Rattle.edge.specs.Lemmas.Ends.{extent-pos}
 use Rattle.edge.specs.Room.{coordinateLimit, extentLimit, Room}
+use Rattle.edge.specs.Laws.Cells.{extent-at-most}
 use Rattle.edge.proofs.Bits.{back, back-is}
 use Rattle.edge.proofs.Held.{Held, held-sub}
 
@@ -29,10 +29,7 @@ pub difference : {a b : ℤ} → Within (pos coordinateLimit) a → Within (pos 
 difference p q = held-sub (coordinate q) (coordinate p)
 
 pub extent-within : (d : ℤ) → Within (pos extentLimit) d → Within (pos extentLimit) (pos (extent d))
-unfolding extent
-extent-within (pos zero) w = record { low = lin≤ [] none! (search linear depth 40) tt; high = lin≤ [] none! (search linear depth 40) tt }
-extent-within (pos (suc n)) w = w
-extent-within (negsuc n) w = within-neg w
+extent-within d w = within-le (extent-at-most d (lin≤ [] none! (search linear depth 40) tt) w) (within-self (nonneg (extent d)))
 
 -- ---- a cell
 module _ {e : Edge} {c : Cell} (r : Room e c) where

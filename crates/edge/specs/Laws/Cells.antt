@@ -2,6 +2,7 @@
 --
 -- Main results
 --   contains-refl, contains-trans, contains-quarter      down the quadtree every cell lies in the one that it began with
+--   extent-at-most, extent-times                         bounds of an extent
 --   sheet-room                                           an edge on a sheet has room in each even cell of it whose width times the sheet's is in range
 use mathlib.Core.Path.{_≡_}
 use mathlib.Core.List.{[], _∷_}
@@ -54,12 +55,19 @@ contains-quarter c half e h i j k l =
     record { left = x .0; right = x .1; top = y .0; bottom = y .1 }
 
 -- ---- room
--- the extent of a difference of two coordinates on a range of width w, which is at least 1
-extent-on : (d : ℤ) {w : ℤ} → pos 1 ≤ℤ w → Within w d → pos (extent d) ≤ℤ w
+-- what bounds a number that is not 0 bounds its extent
+pub extent-at-most : (d : ℤ) {w : ℤ} → pos 1 ≤ℤ w → Within w d → pos (extent d) ≤ℤ w
 unfolding extent
-extent-on (pos zero) h p = h
-extent-on (pos (suc n)) h p = p .high
-extent-on (negsuc n) {w} h p = lin≤ (pos n ∷ w ∷ []) (le (p .low)) (search linear depth 40) tt
+extent-at-most (pos zero) h p = h
+extent-at-most (pos (suc n)) h p = p .high
+extent-at-most (negsuc n) {w} h p = lin≤ (pos n ∷ w ∷ []) (le (p .low)) (search linear depth 40) tt
+
+-- and what bounds a width, and a number times the width, bounds the extent times the width
+pub extent-times : (d : ℤ) {w b : ℤ} → w ≤ℤ b → Within b (d *ℤ w) → (pos (extent d) *ℤ w) ≤ℤ b
+unfolding extent
+extent-times (pos zero) {w} {b} h k = lin≤ (w ∷ b ∷ []) (le h) (search linear depth 40) tt
+extent-times (pos (suc n)) h k = k .high
+extent-times (negsuc n) {w} {b} h k = lin≤ (pos n ∷ w ∷ b ∷ []) (le (k .low)) (search linear depth 40) tt
 
 difference-on : {side w p q : ℤ} → OnRange side w p → OnRange side w q → Within w (q -ℤ p)
 difference-on {side} {w} {p} {q} i j = record {
@@ -104,4 +112,4 @@ sheet-room {s} {c} {e} t o k v m = record {
     w≥0 = lin≤ (c .width ∷ v .half ∷ []) (le (v .half≥0) & eq (v .twice)) (search linear depth 40) tt
 
     product : (d : ℤ) → Within (s .width) d → (pos (extent d) *ℤ c .width) ≤ℤ pos widthTimesExtentLimit
-    product d p = lin≤ (pos (extent d) ∷ s .width ∷ c .width ∷ []) (le (≤ℤ-mul (extent-on d (t .width) p) w≥0) & le m) (search linear depth 40) tt
+    product d p = lin≤ (pos (extent d) ∷ s .width ∷ c .width ∷ []) (le (≤ℤ-mul (extent-at-most d (t .width) p) w≥0) & le m) (search linear depth 40) tt
