@@ -3,7 +3,7 @@
 -- Main results
 --   back                   a number's bits, read back
 --   fits-within            a number within a bound that fits, fits
---   result-is              a call's result, read back
+--   result-is, field-is    what a call answers, or a field holds, read back
 --   back-is                a number within a bound, read back
 --   within-back            and the bound of what is read back
 --   same-bits              numbers with the same bits are the same
@@ -34,11 +34,11 @@ back-is t w = toZ-ofZ (fits-within t w)
 pub within-back : {b z : ℤ} → SFits w64 z → Within b z → Within b (toZ w64 (ofZ w64 z))
 within-back {b} f w = subst⁻¹ (Within b) (toZ-ofZ f) w
 
--- a call answers a number with its range
+-- what a call answers fits 64 bits
 pub result-is : {z v : ℤ} → mag z < 2 ^ 63 → z ≡ v → toZ w64 (ofZ w64 z) ≡ v
 result-is k e = toZ-ofZ (record { sfits = k }) ∙ e
 
--- and so does a field
+-- and so does what a field holds
 pub field-is : (z : ℤ) → mag z < 2 ^ 63 → toZ w64 (ofZ w64 z) ≡ z
 field-is z k = toZ-ofZ (record { sfits = k })
 

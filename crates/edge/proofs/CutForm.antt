@@ -103,7 +103,7 @@ Answers e c half z =
     span (z .x) (z .y) c (z .steps) .first <ℤ span (z .x) (z .y) c (z .steps) .last
     → roundedBy (z .divisor) (numeratorsAt (z .x) (z .y) c (cuts (z .x) (z .y) c half (z .steps))) ≡ details e c
 
--- the value of a fraction by 1
+-- over 1 a number is itself
 whole : (q : ℤ) → roundHalfAway q 1 ≡ q
 whole q = ap (λ z. roundHalfAway z 1) {y = q *ℤ pos 1} (ring (q ∷ []) (search read depth 40) tt) ∙ roundHalfAway-mul q {d = 1} (omega arith)
 

@@ -1,7 +1,7 @@
 -- How large the pieces between cuts are, where no number at a cut passes the limit of a width times an extent.
 --
 -- Main results
---   piece-within             a piece is at most (2 × limit) × (2 × limit)
+--   pieceLimit, piece-within a piece is at most (2 × limit) × (2 × limit)
 --   pieceSum-within          and the three together at most three times that
 use Prim.Native.Nat.{ℕ, _*_}
 use lib.IntN.{ℤ, pos, _+ℤ_, _-ℤ_, _*ℤ_}

@@ -3,7 +3,8 @@
 -- Main results
 --   coordinate, difference        a coordinate, and a difference of two, as the machine has them
 --   extent-within                 the extent of a difference
---   width≥0, width-within         what `Room` says of a cell's width
+--   width≥0, width-high,
+--   width-within                  what `Room` says of a cell's width
 --   half-high                     and of half of it
 use mathlib.Core.Path.{_≡_}
 use mathlib.Core.List.{[], _∷_}

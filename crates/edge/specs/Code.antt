@@ -1,7 +1,8 @@
 -- What the functions below the public ones ask and answer.
 --
 -- Definitions
---   Shows, SameHalf, SameQuarter                         both ends of an edge lie in one half, in one quarter
+--   Shows                                                what a yes says
+--   SameHalf, SameQuarter                                both ends of an edge lie in one half, in one quarter
 --   Closed, SamplesClosed                                a direction is between its sides, or on them
 --   beyondAt, nearAt, pieceSum,
 --   numeratorsOf, numeratorsAt                           the closed form at the four cuts
@@ -24,7 +25,7 @@ use Rattle.edge.specs.Walk.{beyond}
 use Rattle.edge.specs.Room.{coordinateLimit, extentLimit}
 
 -- ---- tests
--- b is true only where P
+-- b is true only where P: a yes can be relied on
 pub record Shows (b : Bool) (P : Type 0) : Type 0 where
   pub shown : b ≡ true → P
 
@@ -61,7 +62,7 @@ abbrev pub pieceSum : Samples → Samples → ℤ
 pieceSum f g =
     (f .first +ℤ f .second) *ℤ (g .second -ℤ g .first) +ℤ (f .second +ℤ f .third) *ℤ (g .third -ℤ g .second) +ℤ (f .third +ℤ f .fourth) *ℤ (g .fourth -ℤ g .third)
 
--- the numerators of h, v and d: of x and y past the sides, and m and n wide
+-- the numerators of h, v and d. x and y: how far past the sides; m and n: the width, in each direction's scale
 abbrev pub numeratorsOf : ℤ → ℤ → Samples → Samples → Details
 numeratorsOf m n x y = record { h = pieceSum (nearAt m x) y; v = pos 0 -ℤ pieceSum (nearAt n y) x; d = pieceSum (nearAt m x) (nearAt n y) }
 

@@ -1,4 +1,4 @@
--- Steps on the way to the laws.
+-- Lemmas on the way to the laws, and shared with the functions' proofs.
 
 -- records with equal fields
 pub mod Records

@@ -16,6 +16,7 @@ pub data Octilinear (e : Edge) : Type 0 where
   upright : dx e ≡ pos 0 → Octilinear e
   diagonal : ax e ≡ ay e → Octilinear e
 
+-- A unit step moves x and y by one of 01's steps each, or not at all. (01's unit is one of area, half a square step.)
 abbrev pub unitX : Edge → Axis
 unitX e = record { scale = pos 1; start = e .x0; sign = sign (dx e) }
 

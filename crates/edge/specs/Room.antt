@@ -15,7 +15,7 @@ use Rattle.edge.specs.declared.Edge.{Edge}
 use Rattle.edge.specs.declared.Cell.{Cell}
 use Rattle.edge.specs.Walk.{ax, ay}
 
--- Coordinates. 01's are at most 2^14; these may lie farther off, as far as the products below allow.
+-- Coordinates. 01's are at most 2^14; these may lie much farther off, and the products below still stay well within 64 bits.
 abbrev pub coordinateLimit : ℕ
 coordinateLimit = 2 ^ 28
 

@@ -5,7 +5,7 @@
 // distance to the nearer side is a tent: 0 at both sides, highest in the middle, 0 outside. `specs/` says this as sums; here is how it is worked out.
 //
 // The walk. In N = |dx| × |dy| equal steps, |dy| × x and |dx| × y move by at most 1 a step. So every side and middle of a cell is crossed at a whole
-// step t, found by one product and no division, and each value is a whole number over N. A level, upright or 45-degree edge is walked in unit steps:
+// step t (a step here is one of these; 01's step, 1/256 pixel, is what coordinates count), found by one product and no division, and each value is a whole number over N. A level, upright or 45-degree edge is walked in unit steps:
 // its values are whole, and nothing is divided by N. The walk is worked out once for an edge and passed by value from cell to cell.
 //
 // The cuts. The steps inside a cell are consecutive, from the later of two entries to the earlier of two exits. The crossings of the two middles cut
@@ -45,14 +45,15 @@ pub struct Edge {
     pub y1: i64,
 }
 
+// A square: its left and its top side, and its width.
 pub struct Cell {
     pub left: i64,
     pub top: i64,
     pub width: i64,
 }
 
-// An edge's part of a cell's three detail coefficients. Around a closed contour the parts add up to the area in the left half less that in the right,
-// upper less lower, and upper left and lower right less the other two quarters.
+// h, v and d of an edge in a cell, in 01's units of half a square step, or their numerators. Before they are rounded, the parts of a closed contour's edges
+// add up to the area in the left half less that in the right, upper less lower, and upper left and lower right less the other two quarters.
 pub struct Details {
     pub h: i64,
     pub v: i64,
@@ -81,7 +82,7 @@ pub struct Span {
     pub last: i64,
 }
 
-// A number at each of the four cuts.
+// A number at each of the four cuts: the first step, two middles in their order, the last step; or those steps.
 pub struct Samples {
     pub first: i64,
     pub second: i64,
@@ -89,7 +90,7 @@ pub struct Samples {
     pub fourth: i64,
 }
 
-// ---- small numbers
+// ---- minimum, maximum, clamp; extent and sign
 
 fn low(a: i64, b: i64) -> i64
     ensures { λ r. ⌜ r ≡ min a b ⌝ }
@@ -151,7 +152,7 @@ fn is_octilinear(sx: i64, sy: i64, ax: i64, ay: i64) -> bool
     }
 }
 
-// In unit steps if it is: then x and y are whole after each.
+// The walk, from extents and signs: in unit steps if the edge is octilinear, for then x and y are whole after each, and else in N.
 fn walk_along(e: Edge, ax: i64, ay: i64, sx: i64, sy: i64) -> Walk
     requires { ⌜ Measured e × (ax ≡ pos (axOf e)) × (ay ≡ pos (ayOf e)) × (sx ≡ signOf (dx e)) × (sy ≡ signOf (dy e)) ⌝ }
     ensures { λ w. ⌜ (w .edge ≡ e) × IsWalk w ⌝ }
@@ -281,7 +282,7 @@ fn middle_of(a: Axis, side: i64, half: i64) -> i64
     a.sign * (a.scale * (side - a.start) + a.scale * half)
 }
 
-// From the first step to the last, cut at x and y.
+// From the first step to the last, cut at the steps x and y, at which the middles are crossed, if these lie between.
 fn cuts_of(s: Span, x: i64, y: i64) -> Samples
     ensures { λ k. ⌜ k ≡ cutsAt (s .first) (s .last) x y ⌝ }
 {
@@ -303,6 +304,7 @@ fn beyond(k: i64, x: i64, s: i64, side: i64, t: i64) -> i64
     k * (x - side) + s * t
 }
 
+// `width` is for the contract alone.
 fn beyond_at(a: Axis, side: i64, width: i64, k: Samples) -> Samples
     requires { ⌜ AxisRoom a side width × SamplesWithin (pos crossingLimit) k ⌝ }
     ensures { λ u. ⌜ u ≡ beyondAt a side k ⌝ }
@@ -387,7 +389,7 @@ fn round_all(m: Details, n: i64) -> Details
 
 // ---- an edge wholly inside one quarter
 
-// Are p and q both in the first half, or both in the second?
+// Are p and q both in the first half, or both in the second, its sides with it? Only a yes is promised to be right.
 fn same_half(p: i64, q: i64, side: i64, half: i64) -> bool
     requires { ⌜ Within (pos coordinateLimit) side × (pos 0 ≤ℤ half) × (half ≤ℤ pos widthTimesExtentLimit) ⌝ }
     ensures { λ b. ⌜ Shows b (SameHalf side half p q) ⌝ }
@@ -409,7 +411,7 @@ fn same_quarter(e: Edge, c: Cell, half: i64) -> bool
     same_half(e.x0, e.x1, c.left, half) && same_half(e.y0, e.y1, c.top, half)
 }
 
-// Along such an edge nothing bends, and what is divided by N was multiplied by it.
+// Along such an edge no tent bends: one piece from end to end, whose numerators are N times these values.
 fn quarter_details(e: Edge, c: Cell, half: i64) -> Details
     requires { ⌜ Room e c × (c .width ≡ half +ℤ half) × (pos 0 ≤ℤ half) × SameQuarter e c half ⌝ }
     ensures { λ r. ⌜ r ≡ detailsOf e c ⌝ }
@@ -434,6 +436,7 @@ fn half_of(width: i64) -> i64
     width / 2
 }
 
+// Where some step lies inside: the sum over the pieces, rounded.
 fn cut_details(w: Walk, c: Cell, half: i64, s: Span) -> Details
     requires { ⌜ IsWalk w × Room (w .edge) c × (c .width ≡ half +ℤ half) × (pos 0 ≤ℤ half) × (s ≡ spanOf (w .x) (w .y) c (w .steps)) × (s .first <ℤ s .last) ⌝ }
     ensures { λ r. ⌜ r ≡ detailsOf (w .edge) c ⌝ }

@@ -1,7 +1,7 @@
 -- What the program's tests show of the numbers of a case.
 --
 -- Definitions
---   Placed                  a point within the limits
+--   PointInRange                  a point within the limits
 --   HalfWidth               half of a width that leaves room for an extent of 1
 --   HasRoom                 the width times the edge's extent in one direction is within its limit
 --   edgeAt, cellAt          the edge and the cell that the numbers name
@@ -15,7 +15,7 @@ use Rattle.edge.specs.Room.{coordinateLimit, Room}
 use Rattle.edge.specs.declared.Edge.{Edge}
 use Rattle.edge.specs.declared.Cell.{Cell}
 
-pub record Placed (x y : ℤ) : Type 0 where
+pub record PointInRange (x y : ℤ) : Type 0 where
   pub across : Within (pos coordinateLimit) x
   pub down : Within (pos coordinateLimit) y
 

@@ -11,7 +11,7 @@ ghost use Rattle.integers.specs.Within.{Within};
 ghost use Rattle.edge.specs.Room.{coordinateLimit, Room};
 ghost use Rattle.edge.specs.WalkOf.{IsWalk};
 ghost use Rattle.edge.specs.Code.{Shows};
-ghost use Rattle.edge_vectors.specs.Ready.{Placed, HalfWidth, HasRoom, Ready};
+ghost use Rattle.edge_vectors.specs.Ready.{PointInRange, HalfWidth, HasRoom, Ready};
 use edge::Cell;
 use edge::Edge;
 use edge::Walk;
@@ -35,8 +35,8 @@ fn within(x: i64) -> bool
     -LIMIT <= x && x <= LIMIT
 }
 
-fn placed(x: i64, y: i64) -> bool
-    ensures { λ b. ⌜ Shows b (Placed x y) ⌝ }
+fn point_in_range(x: i64, y: i64) -> bool
+    ensures { λ b. ⌜ Shows b (PointInRange x y) ⌝ }
 {
     within(x) && within(y)
 }
@@ -59,13 +59,13 @@ fn has_room(from: i64, to: i64, half: i64) -> bool
 fn checked(x0: i64, y0: i64, x1: i64, y1: i64, left: i64, top: i64, half: i64) -> bool
     ensures { λ b. ⌜ Shows b (Ready x0 y0 x1 y1 left top half) ⌝ }
 {
-    if !placed(x0, y0) {
+    if !point_in_range(x0, y0) {
         return false;
     }
-    if !placed(x1, y1) {
+    if !point_in_range(x1, y1) {
         return false;
     }
-    if !placed(left, top) {
+    if !point_in_range(left, top) {
         return false;
     }
     if !is_half_width(half) {
@@ -152,7 +152,7 @@ fn push(n: Numbers, last: i64) -> Numbers {
     }
 }
 
-// 2^63 is the magnitude of the least number, and of no other.
+// A size of 2^63 or more is read as the least number, whatever its sign: all are out of range.
 fn signed(size: u64, negative: bool) -> i64 {
     if size >= 9223372036854775808 {
         -9223372036854775808
@@ -163,7 +163,7 @@ fn signed(size: u64, negative: bool) -> i64 {
     }
 }
 
-// One more digit. What has 19 digits already, and so may have 2^60, stays as it is.
+// One more digit, for a number below 2^60; a larger one stays as it is, so that nothing overflows.
 fn longer(size: u64, digit: u8) -> u64 {
     if size < 1152921504606846976 {
         size * 10 + digit as u64
@@ -173,7 +173,7 @@ fn longer(size: u64, digit: u8) -> u64 {
 }
 
 // One more byte: of a comment, which goes on to the end of its line; `#`; `-`; a digit; or what ends a number.
-fn step(r: Reader, b: u8) -> Reader {
+fn read_byte(r: Reader, b: u8) -> Reader {
     let numbers = r.numbers;
     if r.comment {
         Reader {
@@ -217,7 +217,7 @@ fn show_numbers(n: Numbers) {
     show(n.x0, n.y0, n.x1, n.y1, n.left, n.top, n.half);
 }
 
-// Every line that is no comment has seven numbers.
+// Every line that is no comment is taken to have seven numbers.
 fn show_all(text: &[u8]) {
     let mut r = Reader {
         numbers: Numbers {
@@ -237,7 +237,7 @@ fn show_all(text: &[u8]) {
     while i < text.len() {
         let b = text[i];
         let comment = r.comment;
-        r = step(r, b);
+        r = read_byte(r, b);
         if b == b'\n' && !comment {
             let numbers = r.numbers;
             show_numbers(numbers);

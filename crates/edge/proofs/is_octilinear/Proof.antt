@@ -1,4 +1,4 @@
--- Numbers with the same bits are the same, and other ones are not.
+-- The three comparisons decide whether the edge is level, upright or at 45 degrees: numbers are the same where their bits are.
 use mathlib.Core.Path.{_≡_, ap, subst}
 use mathlib.Core.Bool.{true, false}
 use mathlib.Core.Logic.{_⊎_, inl, inr}

@@ -62,7 +62,7 @@ module _ (s : tie.Start) where
         → Held limit (back z) (toNearer side w p)
     answered f e = record { is = result-is f (e ∙ ap₂ (λ m u. min u (m -ℤ u)) (width .is) (offset .is)); within = nearer-within o (width .within) }
 
--- six places on the way from one answer to the next
+-- from one answer back to the one before: six `before`s
 abbrev start : tie.After-nearer → tie.Start
 start c = c .before .before .before .before .before .before
 

@@ -4,7 +4,7 @@
 --   h-bound, d-bound, v-bound, area-bound                       |h|, |d| ≤ |dy| w, |v| ≤ |dx| w, |area| ≤ 2 |dy| w
 --   rounded-h-bound, rounded-d-bound, rounded-v-bound           the same of the rounded details
 --   h-numerator-bound, d-numerator-bound,
---   v-numerator-bound, area-numerator-bound                     |h|, |d|, |v| ≤ w², |area| ≤ 2 w²; N stands there as |dy| × |dx|, a width to each
+--   v-numerator-bound, area-numerator-bound                     |h|, |d|, |v| ≤ w², |area| ≤ 2 w²; N w² written as (|dy| w) × (|dx| w)
 --   NumeratorsFit, numerators-fit                               no numerator passes its limit
 use mathlib.Core.Path.{_≡_, refl, sym, _∙_, ap}
 use mathlib.Core.List.{[], _∷_}

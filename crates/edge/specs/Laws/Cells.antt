@@ -3,7 +3,7 @@
 -- Main results
 --   contains-refl, contains-trans, contains-quarter      down the quadtree every cell lies in the one that it began with
 --   extent-at-most, extent-times                         bounds of an extent
---   sheet-room                                           an edge on a sheet has room in each even cell of it whose width times the sheet's is in range
+--   Sheet, sheet-room                                    an edge on a sheet has room in each even cell of it whose width times the sheet's is in range
 use mathlib.Core.Path.{_≡_}
 use mathlib.Core.List.{[], _∷_}
 use Prim.Native.Nat.{ℕ, zero, suc, _<_}
@@ -55,7 +55,7 @@ contains-quarter c half e h i j k l =
     record { left = x .0; right = x .1; top = y .0; bottom = y .1 }
 
 -- ---- room
--- what bounds a number that is not 0 bounds its extent
+-- a bound of at least 1 on a number bounds its extent too
 pub extent-at-most : (d : ℤ) {w : ℤ} → pos 1 ≤ℤ w → Within w d → pos (extent d) ≤ℤ w
 unfolding extent
 extent-at-most (pos zero) h p = h
@@ -75,7 +75,7 @@ difference-on {side} {w} {p} {q} i j = record {
   high = lin≤ (side ∷ w ∷ p ∷ q ∷ []) (le (i .low) & le (j .high)) (search linear depth 40) tt;
 }
 
--- a sheet whose sides are in range
+-- A sheet: the square that edges lie on, as 01's tile is. It is at least one step wide, and its sides are in range.
 pub record Sheet (s : Cell) : Type 0 where
   pub width : pos 1 ≤ℤ s .width
   pub left : Within (pos coordinateLimit) (s .left)

@@ -2,6 +2,7 @@
 -- cell's middle in one direction and in the other. (Where none does, they are 0: the zero law.)
 --
 -- Main results
+--   threeAt, edgeCuts                                         three pieces at the cuts; the cuts of an edge's walk
 --   ordered                                                   the cuts are steps of the walk, in order
 --   cuts-closed                                               at each step from the first to the last the walk is in the closed cell
 --   near-past-closed, past-near-closed, near-near-closed      the closed form of a walk
@@ -116,7 +117,7 @@ module _ (a b : Axis) (sa : Steady a) (sb : Steady b) (c : Cell) (half : ℤ) (e
     n≥q = q≤n;
   }
 
-  -- the second of two numbers in order, or the first, is the one
+  -- mx, and likewise my, is one of the two middle cuts
   middle-x : (max mx my ≤ℤ mx) ⊎ (mx ≤ℤ min mx my)
   middle-x = go (≤ℤ-or-<ℤ mx my)
     where

@@ -106,8 +106,8 @@ module _ {r k l : ℕ} {a b : Axis} (p : Subdivided r k a) (q : Subdivided r l b
       record {
         step = i * r + 0;
         on = omega (arith, mul-le-mul-right r (s .on));
-        x = between-parts (c .left) (c .width) (p .unit) (itself a i) (step-of-finer (p .pace) gk i 0 gr) (s .x);
-        y = between-parts (c .top) (c .width) (q .unit) (itself b i) (step-of-finer (q .pace) gl i 0 gr) (s .y);
+        x = between-parts (c .left) (c .width) (p .signed) (itself a i) (step-of-finer (p .pace) gk i 0 gr) (s .x);
+        y = between-parts (c .top) (c .width) (q .signed) (itself b i) (step-of-finer (q .pace) gl i 0 gr) (s .y);
       }
 
   pub inside-coarser : SomeStepInside (finer k a) (finer l b) c (n * r) → SomeStepInside a b c n
@@ -116,8 +116,8 @@ module _ {r k l : ℕ} {a b : Axis} (p : Subdivided r k a) (q : Subdivided r l b
       record {
         step = i;
         on = lt-of-mul-lt-mul-right r (omega (arith, s .on, div-add-mod' (s .step) r));
-        x = between-parts (c .left) (c .width) (p .unit) (at (p .pace) gk) (itself a i) (s .x);
-        y = between-parts (c .top) (c .width) (q .unit) (at (q .pace) gl) (itself b i) (s .y);
+        x = between-parts (c .left) (c .width) (p .signed) (at (p .pace) gk) (itself a i) (s .x);
+        y = between-parts (c .top) (c .width) (q .signed) (at (q .pace) gl) (itself b i) (s .y);
       }
     where
       -- step τ is part τ mod r of step τ / r

@@ -58,7 +58,7 @@ record Subdivision (e : Edge) : Type 0 where
   y : Subdivided each (ax e) (unitY e)
 
 unit-subdivided : {r k : ℕ} {start : ℤ} (d : ℤ) → Pace r k (sign d) → Subdivided r k (record { scale = pos 1; start = start; sign = sign d })
-unit-subdivided d p = record { size = nonneg 1; unit = direction-within (direction d); pace = p }
+unit-subdivided d p = record { size = nonneg 1; signed = direction-within (direction d); pace = p }
 
 subdivision : {e : Edge} → Octilinear e → Subdivision e
 subdivision {e} (level h) =

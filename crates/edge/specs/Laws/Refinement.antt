@@ -4,12 +4,12 @@
 --   finer                                          an axis in a scale k times as fine, and so in steps k times as short
 --   Finer, S-finer                                 f and g k and l times as large as F and G, linear in r parts of each step: k l times their sum
 --   Pace, Subdivided, subdivided, x-subdivided, y-subdivided                   axes of which one step is r steps of `finer k`; for k = r all that move by at most one
---   over, Piecewise, clamp-piecewise,
+--   over, clamped, Piecewise, clamp-piecewise,
 --   tent-piecewise                                 functions of the distance past a side that bend at whole numbers only
 --   over-finer                                     such a function along an axis, and along the finer one, are `Finer`
 --   along-finer                                    the integral along two axes does not depend on the number of steps
 --   area-finer, h-finer, v-finer, d-finer          nor do an edge's: in r times as many steps the sums are r² times as large
---   even-nonneg                                    a width that is twice a half is not negative
+--   even-nonneg                                    twice a half that is not negative is not negative
 use mathlib.Core.Path.{_≡_, refl, sym, _∙_, ap, ap₂, subst}
 use mathlib.Core.List.{[], _∷_}
 use Prim.Native.Nat.{ℕ, zero, suc, _+_, _*_, _≤_}
@@ -65,11 +65,11 @@ pub data Pace (r k : ℕ) (s : ℤ) : Type 0 where
 
 pub record Subdivided (r k : ℕ) (a : Axis) : Type 0 where
   pub size : pos 0 ≤ℤ a .scale
-  pub unit : Within (pos 1) (a .sign)
+  pub signed : Within (pos 1) (a .sign)
   pub pace : Pace r k (a .sign)
 
 pub subdivided : (r : ℕ) {a : Axis} → pos 0 ≤ℤ a .scale → Within (pos 1) (a .sign) → Subdivided r r a
-subdivided r h u = record { size = h; unit = u; pace = moving refl }
+subdivided r h u = record { size = h; signed = u; pace = moving refl }
 
 pub x-subdivided : (e : Edge) (r : ℕ) → Subdivided r r (xAxis e)
 x-subdivided e r = subdivided r (nonneg (ay e)) (direction-within (direction (dx e)))
@@ -132,10 +132,10 @@ module _ {w : ℤ} {φ : ℤ → ℤ → ℤ} (p : Piecewise w φ) (a : Axis) (s
   over-finer {r} {k} c = go (c .pace)
     where
       go : Pace r k (a .sign) → Finer r k coarse (fine k)
-      go (moving e) = subst (λ r. Finer r k coarse (fine k)) e (moves k (c .size) (c .unit))
+      go (moving e) = subst (λ r. Finer r k coarse (fine k)) e (moves k (c .size) (c .signed))
       go (standing e) = record {
         at = λ i ρ g.
-            rests φ (finer k a) side w e (i * r + ρ) (i * k) ∙ finer-at (moves k (c .size) (c .unit)) i
+            rests φ (finer k a) side w e (i * r + ρ) (i * k) ∙ finer-at (moves k (c .size) (c .signed)) i
             ∙ comb (pos k ∷ pos ρ ∷ coarse i ∷ coarse (suc i) ∷ []) (pos ρ ⊗ rests φ a side w e i (suc i)) (search read depth 40) tt;
       }
 

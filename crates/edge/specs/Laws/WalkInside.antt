@@ -2,6 +2,7 @@
 --
 -- Main results
 --   span-of-inside, inside-of-span        first < last just where the edge comes strictly inside
+--   unit-x-steady, unit-y-steady          the directions of the unit walk are `Steady`
 --   span-decides                          the same as the answer of a test
 use mathlib.Core.Path.{subst⁻¹}
 use lib.Signed.{_<ℤ_, ltZ}

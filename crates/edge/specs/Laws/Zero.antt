@@ -1,9 +1,12 @@
 -- The zero law: an edge with no part strictly inside a cell has no details there, and none in any cell inside that one.
--- (Its area there need not be 0: an edge to the right of the cell has the whole width on its left.)
+-- (Its area there need not be 0: an edge to the right of the cell has the whole width on its left.) Widths are not negative.
 --
 -- Main results
 --   inside-wider                               what lies strictly inside a cell lies strictly inside each cell that contains it
 --   idle-near-past, idle-near-near             a step outside adds nothing to h, v or d
+--   NoStepInside, no-step-inside,
+--   near-past-zero, past-near-zero,
+--   near-near-zero                             the same of any walk
 --   h-zero, v-zero, d-zero, details-zero       no part strictly inside: each is 0
 --   not-inside-within, h-zero-within,
 --   v-zero-within, d-zero-within,

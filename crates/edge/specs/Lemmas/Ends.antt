@@ -8,7 +8,8 @@
 --   rounded-whole                   a value that is whole is kept by rounding
 --   Direction, direction            a sign is 1, 0 or −1
 --   direction-within                and so at most one either way
---   Steady, x-steady, y-steady      a direction whose scale is not negative and whose sign is one of these; an edge's two are
+--   Steady, steady-within,
+--   x-steady, y-steady              a direction whose scale is not negative and whose sign is one of these; an edge's two are
 --   beyond-start, x-end, y-end      the walk goes from one end point to the other
 --   past-scale, near-scale          at a point the scale comes out
 use mathlib.Core.Path.{_≡_, refl, _∙_, ap}

@@ -5,7 +5,7 @@
 --   ClosedRun                     the walk is between the sides, or on them, from step u to step v
 --   past-linear                   there the held coordinate is linear
 --   OneHalf, near-linear          and where it does not cross the middle either, so is the distance to the nearer side
---   both-linear                   at cuts p ≤ u ≤ v ≤ q with the crossing of the middle at u or at v, `past` and `near` are linear on all three runs
+--   BothLinear, both-linear       at cuts p ≤ u ≤ v ≤ q with the crossing of the middle at u or at v, `past` and `near` are linear on all three runs
 use mathlib.Core.Path.{_≡_, _∙_, ap, subst}
 use mathlib.Core.List.{[], _∷_}
 use mathlib.Core.Logic.{_⊎_, inl, inr}

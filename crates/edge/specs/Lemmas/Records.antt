@@ -1,4 +1,7 @@
 -- Records with equal fields are equal.
+--
+-- Main results
+--   span-eq, axis-eq, details-eq, samples-eq
 use mathlib.Core.Path.{_≡_, _∙_, ap, ap₂}
 use lib.IntN.{ℤ}
 use Rattle.edge.specs.declared.Axis.{Axis}

@@ -1,7 +1,10 @@
 -- An integral along a walk, run by run: a run of steps that add nothing leaves it as it is, and a run on which f and g are linear adds one piece.
 --
 -- Main results
---   upto                          the integral of f dg up to step z, a whole number that is not negative
+--   piece, three                  what a linear run adds; three of them
+--   LinearOn, LinearThrice        a function is linear on a run, on three
+--   Idle, Ordered                 steps that add nothing; steps in order
+--   upto, upto-zero, upto-all     the integral of f dg up to step z, a whole number that is not negative
 --   idle-run                      nothing is added from a to b
 --   linear-run                    the piece law: (f(a) + f(b)) × (g(b) − g(a)) is added from a to b
 --   three-pieces                  nothing up to p and from q on, and three linear runs between

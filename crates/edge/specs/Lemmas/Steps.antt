@@ -4,7 +4,7 @@
 --   Outside                     both ends of step t lie before the first side, or both behind the second
 --   between-or-outside          a step is one or the other
 --   between-ends                a step strictly between the sides has both ends between them, or on them
---   outside-rests               on a step outside, the distance to the nearer side is 0 and the held coordinate rests
+--   Rests, outside-rests        on a step outside, the distance to the nearer side is 0 and the held coordinate rests
 use mathlib.Core.Path.{_≡_, sym, _∙_}
 use mathlib.Core.List.{[], _∷_}
 use mathlib.Core.Logic.{_⊎_, inl, inr}
@@ -39,7 +39,7 @@ high-of-middle u v m h k = go (≤ℤ-or-<ℤ m u)
     go (inl a) = a
     go (inr a) = lin⊥ (u ∷ v ∷ m ∷ []) (le h & le k & lt a) (search linear depth 40) tt
 
-module _ (a : Axis) (side w t : ℤ) (unit : Within (pos 1) (a .sign)) where
+module _ (a : Axis) (side w t : ℤ) (signed : Within (pos 1) (a .sign)) where
   abbrev u : ℤ
   u = beyond a side t
 
@@ -50,10 +50,10 @@ module _ (a : Axis) (side w t : ℤ) (unit : Within (pos 1) (a .sign)) where
   m = a .scale *ℤ w
 
   up : (v -ℤ u) ≤ℤ pos 1
-  up = lin≤ (a .scale ∷ a .start ∷ a .sign ∷ side ∷ t ∷ []) (le (unit .high)) (search linear depth 40) tt
+  up = lin≤ (a .scale ∷ a .start ∷ a .sign ∷ side ∷ t ∷ []) (le (signed .high)) (search linear depth 40) tt
 
   down : (u -ℤ v) ≤ℤ pos 1
-  down = lin≤ (a .scale ∷ a .start ∷ a .sign ∷ side ∷ t ∷ []) (le (unit .low)) (search linear depth 40) tt
+  down = lin≤ (a .scale ∷ a .start ∷ a .sign ∷ side ∷ t ∷ []) (le (signed .low)) (search linear depth 40) tt
 
   swap≤ : {z : ℤ} → (u +ℤ v) ≤ℤ z → (v +ℤ u) ≤ℤ z
   swap≤ {z} h = lin≤ (a .scale ∷ a .start ∷ a .sign ∷ side ∷ t ∷ z ∷ []) (le h) (search linear depth 40) tt

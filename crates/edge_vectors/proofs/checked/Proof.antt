@@ -2,7 +2,7 @@
 use mathlib.Core.Path.{refl}
 use borrow.Author.Needs.{needs}
 use borrow.Author.Tests.{not-false}
-use Rattle.edge_vectors.specs.Ready.{Placed, HalfWidth, HasRoom}
+use Rattle.edge_vectors.specs.Ready.{PointInRange, HalfWidth, HasRoom}
 use Rattle.edge_vectors.proofs.Answers.{shows-nothing, shown, shown₂, shown₃}
 use Rattle.edge_vectors.proofs.checked.Statement.{statement}
 use Rattle.edge_vectors.proofs.checked.Tie as tie
@@ -10,53 +10,53 @@ use Rattle.edge_vectors.proofs.checked.Reads as reads
 use Rattle.edge_vectors.proofs.checked.Lts as lts
 use Rattle.edge_vectors.proofs.is_half_width.Reads as is-half-width-reads
 use Rattle.edge_vectors.proofs.has_room.Reads as has-room-reads
-use Rattle.edge_vectors.proofs.placed.Reads as placed-reads
+use Rattle.edge_vectors.proofs.point_in_range.Reads as point-in-range-reads
 
 -- ---- what is known after the four tests of single numbers
 abbrev Tested : Type 0
 Tested =
     lts.Else4
-    (placed-reads.Asked, placed-reads.Learnt, is-half-width-reads.Asked, is-half-width-reads.Learnt, has-room-reads.Asked, has-room-reads.Learnt)
+    (point-in-range-reads.Asked, point-in-range-reads.Learnt, is-half-width-reads.Asked, is-half-width-reads.Learnt, has-room-reads.Asked, has-room-reads.Learnt)
     reads.Pre
     reads.Post
 
 abbrev start : Tested
     → lts.Start
-    (placed-reads.Asked, placed-reads.Learnt, is-half-width-reads.Asked, is-half-width-reads.Learnt, has-room-reads.Asked, has-room-reads.Learnt)
+    (point-in-range-reads.Asked, point-in-range-reads.Learnt, is-half-width-reads.Asked, is-half-width-reads.Learnt, has-room-reads.Asked, has-room-reads.Learnt)
     reads.Pre
     reads.Post
 start c = c .before .before .before .before .before .before .before .before
 
-first : (c : Tested) → Placed (start c .args .x0) (start c .args .y0)
+first : (c : Tested) → PointInRange (start c .args .x0) (start c .args .y0)
 first c = let t = c .before .before .before .before .before .before in
-    shown₂ Placed (start c .fits .x0) (start c .fits .y0) (t .before .placed .ensures) (not-false _ (t .if1 .left))
+    shown₂ PointInRange (start c .fits .x0) (start c .fits .y0) (t .before .point-in-range .ensures) (not-false _ (t .if1 .left))
 
-second : (c : Tested) → Placed (start c .args .x1) (start c .args .y1)
+second : (c : Tested) → PointInRange (start c .args .x1) (start c .args .y1)
 second c = let t = c .before .before .before .before in
-    shown₂ Placed (start c .fits .x1) (start c .fits .y1) (t .before .placed2 .ensures) (not-false _ (t .if2 .left))
+    shown₂ PointInRange (start c .fits .x1) (start c .fits .y1) (t .before .point-in-range2 .ensures) (not-false _ (t .if2 .left))
 
-corner : (c : Tested) → Placed (start c .args .left) (start c .args .top)
+corner : (c : Tested) → PointInRange (start c .args .left) (start c .args .top)
 corner c = let t = c .before .before in
-    shown₂ Placed (start c .fits .left) (start c .fits .top) (t .before .placed3 .ensures) (not-false _ (t .if3 .left))
+    shown₂ PointInRange (start c .fits .left) (start c .fits .top) (t .before .point-in-range3 .ensures) (not-false _ (t .if3 .left))
 
 width : (c : Tested) → HalfWidth (start c .args .half)
 width c = shown HalfWidth (start c .fits .half) (c .before .is-half-width .ensures) (not-false _ (c .if4 .left))
 
--- ---- the needs
-placed-requires : tie.Need-placed-requires
-placed-requires c κs = search needs
+-- ---- what the calls ask, and what comes back
+point-in-range-requires : tie.Need-point-in-range-requires
+point-in-range-requires c κs = search needs
 
 returns : tie.Need-returns
 returns c = shows-nothing refl
 
-placed-requires-2 : tie.Need-placed-requires-2
-placed-requires-2 c κs = search needs
+point-in-range-requires-2 : tie.Need-point-in-range-requires-2
+point-in-range-requires-2 c κs = search needs
 
 returns-2 : tie.Need-returns-2
 returns-2 c = shows-nothing refl
 
-placed-requires-3 : tie.Need-placed-requires-3
-placed-requires-3 c κs = search needs
+point-in-range-requires-3 : tie.Need-point-in-range-requires-3
+point-in-range-requires-3 c κs = search needs
 
 returns-3 : tie.Need-returns-3
 returns-3 c = shows-nothing refl
@@ -112,11 +112,11 @@ pub checked-spec : {M : Type 1} → statement M
 checked-spec =
     tie.close
     (tie.spec
-    placed-requires
+    point-in-range-requires
     returns
-    placed-requires-2
+    point-in-range-requires-2
     returns-2
-    placed-requires-3
+    point-in-range-requires-3
     returns-3
     is-half-width-requires
     returns-4

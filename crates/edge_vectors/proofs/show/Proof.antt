@@ -1,4 +1,4 @@
--- Where the numbers are ready, there is room for the walk's edge, which is the edge that was handed in, in the cell.
+-- Where the numbers are ready, there is room for the walk's edge, which is the edge that was given, in the cell.
 use mathlib.Core.Path.{_≡_, sym, subst₂}
 use mathlib.Core.List.{[], _∷_}
 use borrow.Author.Needs.{needs}

@@ -1,4 +1,4 @@
--- The place in the text goes up to its end.
+-- The index goes up to the text's length, so the loop ends.
 use Prim.Native.Nat.{_≤_, _-_}
 use native.Mathlib.Omega.{arith}
 use lib.ListN.{length}
@@ -18,8 +18,8 @@ loop-holds c = search needs
 shared-slice-read-b : tie.Need-shared-slice-read-b Inv-loop μ-loop
 shared-slice-read-b c = search needs
 
-step-requires : tie.Need-step-requires Inv-loop μ-loop
-step-requires c κs = search needs
+read-byte-requires : tie.Need-read-byte-requires Inv-loop μ-loop
+read-byte-requires c κs = search needs
 
 show-numbers-requires : tie.Need-show-numbers-requires Inv-loop μ-loop
 show-numbers-requires c κs = search needs
@@ -38,4 +38,4 @@ returns c = search needs
 
 pub show-all-spec : {M : Type 1} → statement M
 show-all-spec =
-    tie.close (tie.spec Inv-loop μ-loop loop-holds shared-slice-read-b step-requires show-numbers-requires add-i loop-less loop-again returns)
+    tie.close (tie.spec Inv-loop μ-loop loop-holds shared-slice-read-b read-byte-requires show-numbers-requires add-i loop-less loop-again returns)

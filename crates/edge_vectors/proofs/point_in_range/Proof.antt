@@ -4,8 +4,8 @@ use lib.IntN.{pos}
 use Rattle.integers.specs.Within.{Within}
 use Rattle.edge.specs.Room.{coordinateLimit}
 use Rattle.edge_vectors.proofs.Answers.{shows-nothing, shown}
-use Rattle.edge_vectors.proofs.placed.Statement.{statement}
-use Rattle.edge_vectors.proofs.placed.Tie as tie
+use Rattle.edge_vectors.proofs.point_in_range.Statement.{statement}
+use Rattle.edge_vectors.proofs.point_in_range.Tie as tie
 
 within-requires : tie.Need-within-requires
 within-requires c κs = search needs
@@ -27,5 +27,5 @@ returns c =
 returns-2 : tie.Need-returns-2
 returns-2 c = shows-nothing (c .if1 .left)
 
-pub placed-spec : {M : Type 1} → statement M
-placed-spec = tie.close (tie.spec within-requires within-requires-2 returns returns-2)
+pub point-in-range-spec : {M : Type 1} → statement M
+point-in-range-spec = tie.close (tie.spec within-requires within-requires-2 returns returns-2)
