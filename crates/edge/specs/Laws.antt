@@ -3,6 +3,8 @@
 -- more and shorter steps change neither the integrals nor what lies inside: the sums are the integrals
 pub mod Refinement
 pub mod InsideRefinement
+-- h by the left and the right half, d by the upper and the lower
+pub mod Halves
 -- 4 × area(quarter) = area ± h ± v ± d, and terms of the end points
 pub mod Quarter
 -- the area of an edge on the tile is its root term, and terms of the end points
