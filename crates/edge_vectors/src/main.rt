@@ -5,8 +5,7 @@
 // fractions: the edge is a curve over s from 0 to 1, cut where it crosses a side or a middle of the cell. Between two cuts what 01 integrates is linear
 // in s, and its antiderivative gives the integral. Of the sums the nearest whole number was taken, and of two the one of larger magnitude. The edge lies
 // inside where the middle of some part between two cuts does.
-ghost use mathlib.Core.Path.{_≡_};
-ghost use lib.IntN.{pos, natAbs};
+ghost use lib.IntN.{pos};
 ghost use Rattle.integers.specs.Within.{Within};
 ghost use Rattle.edge.specs.Room.{coordinateLimit, Room};
 ghost use Rattle.edge.specs.WalkOf.{IsWalk};
@@ -18,6 +17,7 @@ use edge::Walk;
 use edge::comes_inside;
 use edge::details_in;
 use edge::walk_of;
+use integers::magnitude;
 use libc::STDIN_FILENO;
 use libc::STDOUT_FILENO;
 
@@ -106,17 +106,6 @@ fn print(q: i64) {
     }
     io::print_decimal(STDOUT_FILENO, magnitude(q));
     io::write_all(STDOUT_FILENO, b" ");
-}
-
-// The magnitude of the least number does not fit 64 signed bits, so one is added after the cast.
-fn magnitude(q: i64) -> u64
-    ensures { λ r. ⌜ r ≡ natAbs q ⌝ }
-{
-    if q < 0 {
-        (-(q + 1)) as u64 + 1
-    } else {
-        q as u64
-    }
 }
 
 // ---- the cases, from standard input

@@ -23,3 +23,14 @@ pub fn div_round_half_away(n: i64, d: i64) -> i64
         q
     }
 }
+
+// The magnitude of the least number does not fit 64 signed bits, so one is added after the cast.
+pub fn magnitude(q: i64) -> u64
+    ensures { λ r. ⌜ r ≡ natAbs q ⌝ }
+{
+    if q < 0 {
+        (-(q + 1)) as u64 + 1
+    } else {
+        q as u64
+    }
+}

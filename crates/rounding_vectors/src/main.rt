@@ -1,8 +1,7 @@
 // Runs `integers::div_round_half_away` as it is compiled, and prints each answer on a line. `stdout` has what it must print, worked out
 // another way: in exact fractions, of the two whole numbers around n / d the one at the smaller distance, and at equal distances the one of larger magnitude.
-ghost use mathlib.Core.Path.{_≡_};
-ghost use lib.IntN.{natAbs};
 use integers::div_round_half_away;
+use integers::magnitude;
 use libc::STDOUT_FILENO;
 
 fn show(n: i64, d: i64) {
@@ -17,17 +16,6 @@ fn print(q: i64) {
         io::write_all(STDOUT_FILENO, b"-");
     }
     io::print_decimal(STDOUT_FILENO, magnitude(q));
-}
-
-// The magnitude of the least number does not fit 64 signed bits, so one is added after the cast.
-fn magnitude(q: i64) -> u64
-    ensures { λ r. ⌜ r ≡ natAbs q ⌝ }
-{
-    if q < 0 {
-        (-(q + 1)) as u64 + 1
-    } else {
-        q as u64
-    }
 }
 
 // Halves and thirds, both signs.

@@ -1,4 +1,4 @@
--- `rounding_vectors::magnitude` meets its contract. Below zero it takes −(q + 1), which fits 64 signed bits for every q, and adds one as a u64.
+-- `integers::magnitude` meets its contract. Below zero it takes −(q + 1), which fits 64 signed bits for every q, and adds one as a u64.
 use mathlib.Core.Path.{_≡_, sym}
 use mathlib.Core.List.{[], _∷_}
 use Prim.Native.Nat.{suc, _+_, _^_, _≤_}
@@ -9,14 +9,14 @@ use mir.Syntax.{w64}
 use mir.Val.{SFits, toZ, ofZ}
 use mir.Facts.{sfits-lit, fits-natAbs}
 use borrow.Author.Needs.{needs}
 use Rattle.integers.specs.Ring.{ring}
 use Rattle.integers.specs.Order.{≤ℤ-of-≡, ≤-of-pos, nonneg}
 use Rattle.integers.specs.Linear.{_&_, le, lt, eq, linear, lin≤, lin≡, lin⊥}
 use Rattle.integers.specs.Machine.{machine, linfits, range, tests}
-use Rattle.rounding_vectors.proofs.magnitude.Statement.{statement}
-use Rattle.rounding_vectors.proofs.magnitude.Tie as tie
-use Rattle.rounding_vectors.proofs.magnitude.Reads as reads
-use Rattle.rounding_vectors.proofs.magnitude.Lts as lts
+use Rattle.integers.proofs.magnitude.Statement.{statement}
+use Rattle.integers.proofs.magnitude.Tie as tie
+use Rattle.integers.proofs.magnitude.Reads as reads
+use Rattle.integers.proofs.magnitude.Lts as lts
 
 zero-fits : SFits w64 (pos 0)
 zero-fits = sfits-lit tt
