@@ -25,19 +25,16 @@ use Rattle.edge.specs.Walk.{beyond}
 use Rattle.edge.specs.Room.{extentLimit}
 use Rattle.edge.specs.Code.{AxisRoom, SamplesWithin, Closed, SamplesClosed, beyondAt, nearAt}
 use Rattle.edge.specs.Cuts.{toSide}
-use Rattle.edge.proofs.Bits.{back, back-is}
-use Rattle.edge.proofs.Held.{Held, held-add, held-mul, held-back}
+use Rattle.edge.proofs.Bits.{back}
+use Rattle.edge.proofs.Held.{Held, held-number, held-add, held-mul, held-back}
 use Rattle.edge.proofs.Sizes.{difference}
 
 module _ {a : Axis} {side w : ℤ} (r : AxisRoom a side w) where
-  scale-within : Within (pos extentLimit) (a .scale)
-  scale-within = within-le (r .scale) (within-self (r .scaled))
-
   pub scale-held : Held extentLimit (back (a .scale)) (a .scale)
-  scale-held = record { is = back-is tt scale-within; within = scale-within }
+  scale-held = held-number tt (within-le (r .scale) (within-self (r .scaled)))
 
   pub sign-held : Held 1 (back (a .sign)) (a .sign)
-  sign-held = record { is = back-is tt (r .signed); within = r .signed }
+  sign-held = held-number tt (r .signed)
 
   -- ---- to a side
   pub diff-held : Held extentLimit (back side -ℤ back (a .start)) (side -ℤ a .start)

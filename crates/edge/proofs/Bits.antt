@@ -2,6 +2,7 @@
 --
 -- Main results
 --   back                   a number's bits, read back
+--   greatest               the greatest number of 64 signed bits
 --   fits-within            a number within a bound that fits, fits
 --   result-is, field-is    what a call answers, or a field holds, read back
 --   back-is                a number within a bound, read back
@@ -9,7 +10,7 @@
 --   same-bits              numbers with the same bits are the same
 use mathlib.Core.Path.{_≡_, sym, _∙_, ap, subst⁻¹}
 use mathlib.Core.List.{[], _∷_}
-use Prim.Native.Nat.{ℕ, _<_, _^_}
+use Prim.Native.Nat.{ℕ, _<_, _^_, _-_}
 use lib.Dec.{T, leb, leb→le}
 use lib.IntN.{ℤ, pos}
 use lib.Signed.{mag}
@@ -24,11 +25,15 @@ use Rattle.integers.specs.Machine.{machine, linfits}
 abbrev pub back : ℤ → ℤ
 back z = toZ w64 (ofZ w64 z)
 
--- `b` is a closed number, so the test computes: `fits-within tt`
-pub fits-within : {b : ℕ} {z : ℤ} → T (leb b 9223372036854775807) → Within (pos b) z → SFits w64 z
-fits-within {b} {z} t w = linfits (z ∷ pos b ∷ []) (bounds w & le (pos-≤ℤ (leb→le b 9223372036854775807 t))) (search machine depth 40) (tt, tt)
+-- the greatest number of 64 signed bits
+abbrev pub greatest : ℕ
+greatest = 2 ^ 63 - 1
 
-pub back-is : {b : ℕ} {z : ℤ} → T (leb b 9223372036854775807) → Within (pos b) z → toZ w64 (ofZ w64 z) ≡ z
+-- `b` is a closed number, so the test computes: `fits-within tt`
+pub fits-within : {b : ℕ} {z : ℤ} → T (leb b greatest) → Within (pos b) z → SFits w64 z
+fits-within {b} {z} t w = linfits (z ∷ pos b ∷ []) (bounds w & le (pos-≤ℤ (leb→le b greatest t))) (search machine depth 40) (tt, tt)
+
+pub back-is : {b : ℕ} {z : ℤ} → T (leb b greatest) → Within (pos b) z → toZ w64 (ofZ w64 z) ≡ z
 back-is t w = toZ-ofZ (fits-within t w)
 
 pub within-back : {b z : ℤ} → SFits w64 z → Within b z → Within b (toZ w64 (ofZ w64 z))

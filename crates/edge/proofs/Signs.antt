@@ -17,7 +17,7 @@ use Rattle.integers.specs.Order.{nonneg, ≤ℤ-antisym, ltZ-true, ltZ-false}
 use Rattle.integers.specs.Linear.{le, lt, _&_, linear, lin⊥}
 use Rattle.edge.specs.declared.Span.{Span}
 use Rattle.edge.specs.Walk.{extent, sign}
-use Rattle.edge.specs.Cuts.{strip}
+use Rattle.edge.specs.Cuts.{allSteps, noSteps, strip}
 
 pub sign-positive : (d : ℤ) → pos 0 <ℤ d → sign d ≡ pos 1
 unfolding sign
@@ -69,7 +69,7 @@ unfolding strip
 strip-between {s} {lower} {upper} n h k i j = ap (λ s. strip s lower upper n) (≤ℤ-antisym h k) ∙ go (ltZ lower (pos 0)) (ltZ (pos 0) upper) ltZ-false ltZ-false
   where
     go : (b c : Bool) → (b ≡ false → pos 0 ≤ℤ lower) → (c ≡ false → upper ≤ℤ pos 0)
-        → _≡_ {A = Span} (cond b (cond c (record { first = pos 0; last = n }) (record { first = n; last = pos 0 })) (record { first = n; last = pos 0 })) (record { first = pos 0; last = n })
+        → _≡_ {A = Span} (cond b (cond c (allSteps n) (noSteps n)) (noSteps n)) (record { first = pos 0; last = n })
     go true true _ _ = refl
     go true false _ q = lin⊥ (upper ∷ []) (lt j & le (q refl)) (search linear depth 40) tt
     go false c p _ = lin⊥ (lower ∷ []) (lt i & le (p refl)) (search linear depth 40) tt
@@ -79,7 +79,7 @@ unfolding strip
 strip-outside {s} {lower} {upper} n h k o = ap (λ s. strip s lower upper n) (≤ℤ-antisym h k) ∙ go (ltZ lower (pos 0)) (ltZ (pos 0) upper) ltZ-true ltZ-true o
   where
     go : (b c : Bool) → (b ≡ true → lower <ℤ pos 0) → (c ≡ true → pos 0 <ℤ upper) → (pos 0 ≤ℤ lower) ⊎ (upper ≤ℤ pos 0)
-        → _≡_ {A = Span} (cond b (cond c (record { first = pos 0; last = n }) (record { first = n; last = pos 0 })) (record { first = n; last = pos 0 })) (record { first = n; last = pos 0 })
+        → _≡_ {A = Span} (cond b (cond c (allSteps n) (noSteps n)) (noSteps n)) (record { first = n; last = pos 0 })
     go false c _ _ _ = refl
     go true false _ _ _ = refl
     go true true p q (inl i) = lin⊥ (lower ∷ []) (le i & lt (p refl)) (search linear depth 40) tt

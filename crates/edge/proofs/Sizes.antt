@@ -20,11 +20,11 @@ use Rattle.edge.specs.Walk.{extent, dx, ax}
 use Rattle.edge.specs.Lemmas.Ends.{extent-pos}
 use Rattle.edge.specs.Room.{coordinateLimit, extentLimit, Room}
 use Rattle.edge.specs.Laws.Cells.{extent-at-most}
-use Rattle.edge.proofs.Bits.{back, back-is}
-use Rattle.edge.proofs.Held.{Held, held-sub}
+use Rattle.edge.proofs.Bits.{back}
+use Rattle.edge.proofs.Held.{held-number, Held, held-sub}
 
 pub coordinate : {x : ℤ} → Within (pos coordinateLimit) x → Held coordinateLimit (back x) x
-coordinate p = record { is = back-is tt p; within = p }
+coordinate p = held-number tt p
 
 pub difference : {a b : ℤ} → Within (pos coordinateLimit) a → Within (pos coordinateLimit) b → Held extentLimit (back b -ℤ back a) (b -ℤ a)
 difference p q = held-sub (coordinate q) (coordinate p)

@@ -1,15 +1,12 @@
 -- What the functions below the public ones ask and answer.
 --
 -- Definitions
---   Shows                                                what a yes says
 --   SameHalf, SameQuarter                                both ends of an edge lie in one half, in one quarter
 --   Closed, SamplesClosed                                a direction is between its sides, or on them
 --   beyondAt, nearAt, pieceSum,
 --   numeratorsOf, numeratorsAt                           the closed form at the four cuts
 --   roundedBy                                            three numerators, rounded
 --   AxisRoom, SamplesWithin                              the ranges that they ask for
-use mathlib.Core.Path.{_≡_}
-use mathlib.Core.Bool.{Bool, true}
 use lib.IntN.{ℤ, pos, natAbs, _+ℤ_, _-ℤ_, _*ℤ_}
 use lib.Signed.{_≤ℤ_}
 use Rattle.integers.specs.Units.{widthTimesExtentLimit}
@@ -25,10 +22,7 @@ use Rattle.edge.specs.Walk.{beyond}
 use Rattle.edge.specs.Room.{coordinateLimit, extentLimit}
 
 -- ---- tests
--- b is true only where P: a yes can be relied on
-pub record Shows (b : Bool) (P : Type 0) : Type 0 where
-  pub shown : b ≡ true → P
-
+-- both p and q lie in the first half of the range that begins at a side, or both in the second; a half has its ends
 pub data SameHalf (side half p q : ℤ) : Type 0 where
   first : side ≤ℤ p → p ≤ℤ (side +ℤ half) → side ≤ℤ q → q ≤ℤ (side +ℤ half) → SameHalf side half p q
   second : (side +ℤ half) ≤ℤ p → p ≤ℤ (side +ℤ half +ℤ half) → (side +ℤ half) ≤ℤ q → q ≤ℤ (side +ℤ half +ℤ half) → SameHalf side half p q

@@ -2,6 +2,7 @@
 --
 -- Definitions
 --   toSide              from a walk's start to a line
+--   allSteps, noSteps   all of a walk's steps, and none
 --   strip, stripOf      the steps of one direction between two lines, by the sign of its walk
 --   meet, span          the steps of both directions at once, and so inside a cell
 --   toMiddle            the step at which a direction crosses the middle between its sides
@@ -21,10 +22,17 @@ use Rattle.edge.specs.declared.Samples.{Samples}
 abbrev pub toSide : Axis → ℤ → ℤ
 toSide a side = a .scale *ℤ (side -ℤ a .start)
 
+-- all of n steps, and none of them
+abbrev pub allSteps : ℤ → Span
+allSteps n = record { first = pos 0; last = n }
+
+abbrev pub noSteps : ℤ → Span
+noSteps n = record { first = n; last = pos 0 }
+
 -- The walk has moved by `sign × t` after t steps, and is between the lines `lower` and `upper`, both measured from its start. Where it stands still it
 -- is between them for all n steps, or for none.
 unfoldable pub strip : ℤ → ℤ → ℤ → ℤ → Span
-strip (pos zero) lower upper n = cond (ltZ lower (pos 0)) (cond (ltZ (pos 0) upper) (record { first = pos 0; last = n }) (record { first = n; last = pos 0 })) (record { first = n; last = pos 0 })
+strip (pos zero) lower upper n = cond (ltZ lower (pos 0)) (cond (ltZ (pos 0) upper) (allSteps n) (noSteps n)) (noSteps n)
 strip (pos (suc s)) lower upper n = record { first = lower; last = upper }
 strip (negsuc s) lower upper n = record { first = negℤ upper; last = negℤ lower }
 

@@ -33,7 +33,7 @@ ghost use Rattle.edge.specs.Inside.{Inside};
 ghost use Rattle.edge.specs.Rounded.{details as detailsOf};
 ghost use Rattle.edge.specs.Cuts.{strip as stripSteps, stripOf, meet as meetOf, span as spanOf, toMiddle, cutsAt};
 ghost use Rattle.edge.specs.Room.{coordinateLimit, extentLimit, crossingLimit, Measured, Even, Room};
-ghost use Rattle.edge.specs.Code.{AxisRoom, SamplesWithin, Shows, SameHalf, SameQuarter, SamplesClosed, beyondAt, nearAt, pieceSum, numeratorsAt, roundedBy};
+ghost use Rattle.edge.specs.Code.{AxisRoom, SamplesWithin, SameHalf, SameQuarter, SamplesClosed, beyondAt, nearAt, pieceSum, numeratorsAt, roundedBy};
 ghost use Rattle.edge.specs.WalkOf.{IsWalk, Decides};
 use integers::div_round_half_away;
 
@@ -389,10 +389,10 @@ fn round_all(m: Details, n: i64) -> Details
 
 // ---- an edge wholly inside one quarter
 
-// Are p and q both in the first half, or both in the second, its sides with it? Only a yes is promised to be right.
+// Are p and q both in the first half, or both in the second, its sides with it?
 fn same_half(p: i64, q: i64, side: i64, half: i64) -> bool
     requires { ⌜ Within (pos coordinateLimit) side × (pos 0 ≤ℤ half) × (half ≤ℤ pos widthTimesExtentLimit) ⌝ }
-    ensures { λ b. ⌜ Shows b (SameHalf side half p q) ⌝ }
+    ensures { λ b. ⌜ Decides b (SameHalf side half p q) ⌝ }
 {
     let first = low(p, q);
     let last = high(p, q);
@@ -406,7 +406,7 @@ fn same_half(p: i64, q: i64, side: i64, half: i64) -> bool
 
 fn same_quarter(e: Edge, c: Cell, half: i64) -> bool
     requires { ⌜ Room e c × (c .width ≡ half +ℤ half) × (pos 0 ≤ℤ half) ⌝ }
-    ensures { λ b. ⌜ Shows b (SameQuarter e c half) ⌝ }
+    ensures { λ b. ⌜ Decides b (SameQuarter e c half) ⌝ }
 {
     same_half(e.x0, e.x1, c.left, half) && same_half(e.y0, e.y1, c.top, half)
 }

@@ -10,7 +10,7 @@ use lib.IntN.{ℤ}
 use mir.Syntax.{w64}
 use mir.Val.{SFits, toZ, ofZ}
 use mir.Facts.{toZ-ofZ}
-use Rattle.edge.specs.Code.{Shows}
+use Rattle.edge_vectors.specs.Ready.{Shows}
 
 pub shows-nothing : {b : Bool} {P : Type 0} → b ≡ false → Shows b P
 shows-nothing f = record { shown = λ k. absurd (subst T (sym k ∙ f) tt) }

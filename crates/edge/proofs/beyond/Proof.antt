@@ -1,51 +1,43 @@
--- How far past a line the walk is after t steps, `scale` times over. Both products and their sum stay below 2^60.
-use mathlib.Core.List.{[], _∷_}
-use lib.IntN.{ℤ, pos, _-ℤ_, _*ℤ_}
-use lib.Signed.{_≤ℤ_}
-use Rattle.integers.specs.Ring.{ring}
-use Rattle.integers.specs.Linear.{_&_}
-use Rattle.integers.specs.Within.{Within, bounds, within-le, within-self, within-sub, within-mul}
-use Rattle.integers.specs.Machine.{machine, linfits}
-use Rattle.edge.specs.Room.{coordinateLimit, extentLimit}
+-- How far past a line the walk is after t steps, `scale` times over: both products and their sum stay in range.
+use Prim.Native.Nat.{_+_, _*_}
+use lib.IntN.{_+ℤ_, _-ℤ_, _*ℤ_}
+use Rattle.integers.specs.Within.{within-le, within-self}
+use Rattle.edge.specs.Room.{extentLimit, crossingLimit}
+use Rattle.edge.proofs.Bits.{back}
+use Rattle.edge.proofs.Held.{Held, held-number, held-add, held-mul, held-fits, held-back}
+use Rattle.edge.proofs.Sizes.{difference}
 use Rattle.edge.proofs.beyond.Statement.{statement}
 use Rattle.edge.proofs.beyond.Tie as tie
 
-start-within : {k x side : ℤ} → pos 0 ≤ℤ k → k ≤ℤ pos extentLimit → Within (pos coordinateLimit) x → Within (pos coordinateLimit) side
-    → Within (pos extentLimit *ℤ pos extentLimit) (k *ℤ (x -ℤ side))
-start-within h l p q = within-mul (within-le l (within-self h)) (within-sub p q)
+module _ (s : tie.Start) where
+  offset : Held extentLimit (back (s .args .x) -ℤ back (s .args .side)) (s .args .x -ℤ s .args .side)
+  offset = difference (s .pre .4) (s .pre .2)
+
+  start : Held (extentLimit * extentLimit) (back (s .args .k) *ℤ back (back (s .args .x) -ℤ back (s .args .side))) (s .args .k *ℤ (s .args .x -ℤ s .args .side))
+  start = held-mul (held-number tt (within-le (s .pre .1) (within-self (s .pre .0)))) (held-back tt offset)
+
+  moved : Held (1 * crossingLimit) (back (s .args .s) *ℤ back (s .args .t)) (s .args .s *ℤ s .args .t)
+  moved = held-mul (held-number tt (s .pre .3)) (held-number tt (s .pre .5))
+
+  sum : Held (extentLimit * extentLimit + 1 * crossingLimit)
+      (back (back (s .args .k) *ℤ back (back (s .args .x) -ℤ back (s .args .side))) +ℤ back (back (s .args .s) *ℤ back (s .args .t)))
+      (s .args .k *ℤ (s .args .x -ℤ s .args .side) +ℤ s .args .s *ℤ s .args .t)
+  sum = held-add (held-back tt start) (held-back tt moved)
 
 sub-result : tie.Need-sub-result
-sub-result c =
-    let p = c .pre in
-    linfits (c .args .x ∷ c .args .side ∷ []) (bounds (p .2) & bounds (p .4)) (search machine depth 40) (tt, tt)
+sub-result c = held-fits tt (offset c)
 
 mul-result : tie.Need-mul-result
-mul-result c =
-    let p = c .pre in
-    let f = sub-result c in
-    linfits (c .args .k ∷ c .args .x ∷ c .args .side ∷ []) (bounds (start-within (p .0) (p .1) (p .2) (p .4))) (search machine depth 40) (tt, tt)
+mul-result c = held-fits tt (start c)
 
 mul-result-2 : tie.Need-mul-result-2
-mul-result-2 c =
-    let p = c .pre in
-    linfits (c .args .s ∷ c .args .t ∷ []) (bounds (within-mul (p .3) (p .5))) (search machine depth 40) (tt, tt)
+mul-result-2 c = held-fits tt (moved c)
 
 add-result : tie.Need-add-result
-add-result c =
-    let p = c .pre in
-    let f = sub-result c in
-    let g = mul-result c in
-    let h = mul-result-2 c in
-    linfits (c .args .k ∷ c .args .x ∷ c .args .side ∷ c .args .s ∷ c .args .t ∷ [])
-    (bounds (start-within (p .0) (p .1) (p .2) (p .4)) & bounds (within-mul (p .3) (p .5))) (search machine depth 40) (tt, tt)
+add-result c = held-fits tt (sum c)
 
 returns : tie.Need-returns
-returns c =
-    let f = sub-result c in
-    let g = mul-result c in
-    let h = mul-result-2 c in
-    let i = add-result c in
-    ring (c .args .k ∷ c .args .x ∷ c .args .side ∷ c .args .s ∷ c .args .t ∷ []) (search machine depth 40) tt
+returns c = held-back tt (sum c) .is
 
 pub beyond-spec : {M : Type 1} → statement M
 beyond-spec = tie.close (tie.spec sub-result mul-result mul-result-2 add-result returns)

@@ -46,7 +46,7 @@ same-quarter-requires c κs = (start c .pre .1, even c, half≥0 c)
 quarter-details-requires : tie.Need-quarter-details-requires
 quarter-details-requires c κs =
     let k = c .before .before in
-    (start k .pre .1, even k, half≥0 k, c .before .same-quarter .ensures .shown (c .if2 .taken))
+    (start k .pre .1, even k, half≥0 k, c .before .same-quarter .ensures .yes (c .if2 .taken))
 
 cut-details-requires : tie.Need-cut-details-requires
 cut-details-requires c κs =

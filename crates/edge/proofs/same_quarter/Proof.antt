@@ -1,5 +1,5 @@
 -- One half in x, and one half in y.
-use mathlib.Core.Path.{_≡_, sym, _∙_, subst⁻¹, subst₂}
+use mathlib.Core.Path.{_≡_, sym, _∙_, ap₂, subst, subst⁻¹}
 use mathlib.Core.Bool.{true≢false}
 use lib.IntN.{ℤ, pos}
 use lib.Signed.{_≤ℤ_}
@@ -7,6 +7,7 @@ use mir.Facts.{toZ-ofZ}
 use Rattle.integers.specs.Within.{Within}
 use Rattle.integers.specs.Units.{widthTimesExtentLimit}
 use Rattle.edge.specs.Room.{coordinateLimit}
+use Rattle.edge.specs.WalkOf.{Decides}
 use Rattle.edge.specs.Code.{SameHalf}
 use Rattle.edge.proofs.Bits.{back, back-is}
 use Rattle.edge.proofs.Held.{held-within}
@@ -28,26 +29,30 @@ same-half-requires c κs = let s = c .before .before .before in asked s (s .pre 
 same-half-requires-2 : tie.Need-same-half-requires-2
 same-half-requires-2 c κs = let s = c .before .before .before .before .before .before .before .before in asked s (s .pre .0 .top)
 
--- of the same numbers
-half-is : {a a′ b b′ p p′ q q′ : ℤ} → a ≡ a′ → b ≡ b′ → p ≡ p′ → q ≡ q′ → SameHalf a b p q → SameHalf a′ b′ p′ q′
-half-is {a} {a′} {b} {b′} {p} {p′} {q} {q′} i j k l h = subst₂ (SameHalf a′ b′) k l (subst₂ (λ x y. SameHalf x y p q) i j h)
+half-eq : {a a′ b b′ p p′ q q′ : ℤ} → a ≡ a′ → b ≡ b′ → p ≡ p′ → q ≡ q′ → SameHalf a b p q ≡ SameHalf a′ b′ p′ q′
+half-eq {a} {a′} {b} {b′} {p} {p′} {q} {q′} i j k l = ap₂ (λ x y. SameHalf x y p q) i j ∙ ap₂ (SameHalf a′ b′) k l
+
+-- ---- the edge's numbers, read back
+module _ (s : tie.Start) where
+  x-is : SameHalf (back (s .args .c .left)) (back (s .args .half)) (back (s .args .e .x0)) (back (s .args .e .x1)) ≡ SameHalf (s .args .c .left) (s .args .half) (s .args .e .x0) (s .args .e .x1)
+  x-is = let r = s .pre .0 in half-eq (back-is tt (r .left)) (toZ-ofZ (s .fits .half)) (back-is tt (r .edge .x0)) (back-is tt (r .edge .x1))
+
+  y-is : SameHalf (back (s .args .c .top)) (back (s .args .half)) (back (s .args .e .y0)) (back (s .args .e .y1)) ≡ SameHalf (s .args .c .top) (s .args .half) (s .args .e .y0) (s .args .e .y1)
+  y-is = let r = s .pre .0 in half-eq (back-is tt (r .top)) (toZ-ofZ (s .fits .half)) (back-is tt (r .edge .y0)) (back-is tt (r .edge .y1))
 
 returns : tie.Need-returns
 returns c =
     let u = c .before .before .before .before in
     let s = u .before .before .before .before .before in
-    let r = s .pre .0 in
-    let g = r .edge in
-    let f = toZ-ofZ (s .fits .half) in
-    record {
-      shown = λ t. record {
-        x = half-is (back-is tt (r .left)) f (back-is tt (g .x0)) (back-is tt (g .x1)) (u .before .same-half .ensures .shown (u .if1 .taken));
-        y = half-is (back-is tt (r .top)) f (back-is tt (g .y0)) (back-is tt (g .y1)) (c .same-half2 .ensures .shown t);
-      };
-    }
+    let x = subst (Decides _) (x-is s) (u .before .same-half .ensures) in
+    let y = subst (Decides _) (y-is s) (c .same-half2 .ensures) in
+    record { yes = λ t. record { x = x .yes (u .if1 .taken); y = y .yes t }; no = λ t q. y .no t (q .y) }
 
 returns-2 : tie.Need-returns-2
-returns-2 c = record { shown = λ t. absurd (true≢false (sym t ∙ c .if1 .left)) }
+returns-2 c =
+    let s = c .before .before .before .before .before in
+    let x = subst (Decides _) (x-is s) (c .before .same-half .ensures) in
+    record { yes = λ t. absurd (true≢false (sym t ∙ c .if1 .left)); no = λ t q. x .no (c .if1 .left) (q .x) }
 
 pub same-quarter-spec : {M : Type 1} → statement M
 same-quarter-spec = tie.close (tie.spec same-half-requires same-half-requires-2 returns returns-2)

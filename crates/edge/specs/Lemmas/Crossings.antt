@@ -18,7 +18,7 @@ use Rattle.integers.specs.Order.{≤ℤ-or-<ℤ, ≤ℤ-trans, ≤ℤ-of-≡, a
 use Rattle.integers.specs.Linear.{le, lt, _&_, linear, lin≤, lin<, lin⊥}
 use Rattle.integers.specs.MinMax.{min, max, min-≤ˡ, min-≤ʳ, min-greatest, max-≥ˡ, max-≥ʳ, max-least}
 use Rattle.edge.specs.declared.Axis.{Axis}
-use Rattle.edge.specs.Cuts.{strip, stripOf, meet, span}
+use Rattle.edge.specs.Cuts.{allSteps, noSteps, strip, stripOf, meet, span}
 use Rattle.edge.specs.declared.Cell.{Cell}
 use Rattle.edge.specs.declared.Span.{Span}
 use Rattle.edge.specs.Lemmas.Ends.{Direction, forward, still, backward, Steady}
@@ -76,7 +76,7 @@ module _ (k x side w n : ℤ) where
 
   steps-still : (b c : Bool) → (b ≡ true → lower <ℤ pos 0) → (b ≡ false → pos 0 ≤ℤ lower) → (c ≡ true → pos 0 <ℤ upper) → (c ≡ false → upper ≤ℤ pos 0)
       → StepsWith (Between (record { scale = k; start = x; sign = pos 0 }) side w) n
-      (cond b (cond c (record { first = pos 0; last = n }) (record { first = n; last = pos 0 })) (record { first = n; last = pos 0 }))
+      (cond b (cond c (allSteps n) (noSteps n)) (noSteps n))
   steps-still false c _ h _ _ = steps-none (λ t b. lin⊥ (k ∷ x ∷ side ∷ t ∷ []) (le (h refl) & lt (b .after)) (search linear depth 40) tt)
   steps-still true false _ _ _ h = steps-none (λ t b. lin⊥ (k ∷ x ∷ side ∷ w ∷ t ∷ []) (le (h refl) & lt (b .before)) (search linear depth 40) tt)
   steps-still true true g _ h _ = record {
