@@ -1,6 +1,6 @@
 -- An edge's part of a cell's exact area, and of the cell's three details. Each is a whole number over `steps e`; these are the numerators.
--- Area is the integral in every cell. The details are the integrals where the width is even: a cell that has quarters has its middle on a grid line, and only there
--- and at its sides does the distance to the nearer side bend.
+-- Area is the integral in every cell. The details are the integrals where the width is even: a cell that has quarters has its middle on a grid line,
+-- and only there and at its sides does the distance to the nearer side bend.
 --
 -- Definitions
 --   along                           twice the integral of f dg along a walk of n steps
