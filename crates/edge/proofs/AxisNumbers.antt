@@ -25,8 +25,8 @@ use Rattle.edge.specs.Walk.{beyond}
 use Rattle.edge.specs.Room.{extentLimit}
 use Rattle.edge.specs.Code.{AxisRoom, SamplesWithin, Closed, SamplesClosed, beyondAt, nearAt}
 use Rattle.edge.specs.Cuts.{toSide}
-use Rattle.edge.proofs.Bits.{back}
-use Rattle.edge.proofs.Held.{Held, held-number, held-add, held-mul, held-back}
+use Rattle.integers.specs.Bits.{back}
+use Rattle.integers.specs.Held.{Held, held-number, held-add, held-mul, held-back}
 use Rattle.edge.proofs.Sizes.{difference}
 
 module _ {a : Axis} {side w : ℤ} (r : AxisRoom a side w) where

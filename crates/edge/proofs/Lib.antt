@@ -1,8 +1,5 @@
 -- What the functions' proofs share.
 
--- numbers and their bits; numbers with their bounds, through the operations
-pub mod Bits
-pub mod Held
 -- definitions by the sign, as the code tests it
 pub mod Signs
 -- what `Room` says of coordinates, extents, widths, of each direction of a walk, and of what is formed from them

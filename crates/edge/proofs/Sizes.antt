@@ -20,8 +20,8 @@ use Rattle.edge.specs.Walk.{extent, dx, ax}
 use Rattle.edge.specs.Lemmas.Ends.{extent-pos}
 use Rattle.edge.specs.Room.{coordinateLimit, extentLimit, Room}
 use Rattle.edge.specs.Laws.Cells.{extent-at-most}
-use Rattle.edge.proofs.Bits.{back}
-use Rattle.edge.proofs.Held.{held-number, Held, held-sub}
+use Rattle.integers.specs.Bits.{back}
+use Rattle.integers.specs.Held.{held-number, Held, held-sub}
 
 pub coordinate : {x : ℤ} → Within (pos coordinateLimit) x → Held coordinateLimit (back x) x
 coordinate p = held-number tt p

@@ -28,7 +28,7 @@ use Rattle.edge.specs.Octilinear.{unitSteps}
 use Rattle.edge.specs.Room.{coordinateLimit, extentLimit, crossingLimit, Measured, Room}
 use Rattle.edge.specs.Code.{AxisRoom}
 use Rattle.edge.specs.WalkOf.{IsWalk, fine, unit}
-use Rattle.edge.proofs.Bits.{back}
+use Rattle.integers.specs.Bits.{back}
 use Rattle.edge.proofs.Sizes.{difference, extent-within, width≥0, width-high}
 
 -- ---- one direction

@@ -2,7 +2,7 @@
 --
 -- Main results
 --   clamp-low, clamp-high                           it lies between its bounds
---   clamp-below, clamp-inside, clamp-above          its three cases; `held` as one view, for the bounds 0 and m
+--   clamp-below, clamp-inside, clamp-above          its three cases; `clamped` as one view, for the bounds 0 and m
 --   clamp-mono, clamp-moves                         it rises with v, and moves by no more than v does
 --   clamp-halves                                    of a whole width, it is that of the left half and that of the right half, added
 --   clamp-scale                                     a factor that is not negative comes out
@@ -43,15 +43,15 @@ unfolding clamp
 clamp-above {lo} h k = ap (max lo) (min-eqʳ k) ∙ max-eqʳ h
 
 -- c is v held between 0 and m
-pub data Held (m v c : ℤ) : Type 0 where
-  below : v ≤ℤ pos 0 → c ≡ pos 0 → Held m v c
-  inside : pos 0 ≤ℤ v → v ≤ℤ m → c ≡ v → Held m v c
-  above : m ≤ℤ v → c ≡ m → Held m v c
+pub data Clamped (m v c : ℤ) : Type 0 where
+  below : v ≤ℤ pos 0 → c ≡ pos 0 → Clamped m v c
+  inside : pos 0 ≤ℤ v → v ≤ℤ m → c ≡ v → Clamped m v c
+  above : m ≤ℤ v → c ≡ m → Clamped m v c
 
-pub held : {m : ℤ} → pos 0 ≤ℤ m → (v : ℤ) → Held m v (clamp v (pos 0) m)
-held {m} h v = go (≤ℤ-or-<ℤ v (pos 0)) (≤ℤ-or-<ℤ m v)
+pub clamped : {m : ℤ} → pos 0 ≤ℤ m → (v : ℤ) → Clamped m v (clamp v (pos 0) m)
+clamped {m} h v = go (≤ℤ-or-<ℤ v (pos 0)) (≤ℤ-or-<ℤ m v)
   where
-    go : (v ≤ℤ pos 0) ⊎ (pos 0 <ℤ v) → (m ≤ℤ v) ⊎ (v <ℤ m) → Held m v (clamp v (pos 0) m)
+    go : (v ≤ℤ pos 0) ⊎ (pos 0 <ℤ v) → (m ≤ℤ v) ⊎ (v <ℤ m) → Clamped m v (clamp v (pos 0) m)
     go (inl a) b = below a (clamp-below m a)
     go (inr a) (inl b) = above b (clamp-above h b)
     go (inr a) (inr b) = inside (≤ℤ-of-<ℤ a) (≤ℤ-of-<ℤ b) (clamp-inside (≤ℤ-of-<ℤ a) (≤ℤ-of-<ℤ b))
@@ -106,9 +106,9 @@ clamp-halves {m} {h} w k v = go (≤ℤ-or-<ℤ v h) (≤ℤ-or-<ℤ v m)
 
 -- ---- a factor
 pub clamp-scale : {k m : ℤ} → pos 0 ≤ℤ k → pos 0 ≤ℤ m → (v : ℤ) → clamp (k *ℤ v) (pos 0) (k *ℤ m) ≡ k *ℤ clamp v (pos 0) m
-clamp-scale {k} {m} h j v = go (held j v)
+clamp-scale {k} {m} h j v = go (clamped j v)
   where
-    go : Held m v (clamp v (pos 0) m) → clamp (k *ℤ v) (pos 0) (k *ℤ m) ≡ k *ℤ clamp v (pos 0) m
+    go : Clamped m v (clamp v (pos 0) m) → clamp (k *ℤ v) (pos 0) (k *ℤ m) ≡ k *ℤ clamp v (pos 0) m
     go (below a e) =
         clamp-below (k *ℤ m) (lin≤ (k ∷ v ∷ []) (le (≤ℤ-mul h a)) (search linear depth 40) tt)
         ∙ ring (k ∷ []) (search read depth 40) tt ∙ sym (ap (λ z. k *ℤ z) e)

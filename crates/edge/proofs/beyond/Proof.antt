@@ -3,8 +3,8 @@ use Prim.Native.Nat.{_+_, _*_}
 use lib.IntN.{_+ℤ_, _-ℤ_, _*ℤ_}
 use Rattle.integers.specs.Within.{within-le, within-self}
 use Rattle.edge.specs.Room.{extentLimit, crossingLimit}
-use Rattle.edge.proofs.Bits.{back}
-use Rattle.edge.proofs.Held.{Held, held-number, held-add, held-mul, held-fits, held-back}
+use Rattle.integers.specs.Bits.{back}
+use Rattle.integers.specs.Held.{Held, held-number, held-add, held-mul, held-fits, held-back}
 use Rattle.edge.proofs.Sizes.{difference}
 use Rattle.edge.proofs.beyond.Statement.{statement}
 use Rattle.edge.proofs.beyond.Tie as tie

@@ -7,9 +7,9 @@ use Rattle.edge.specs.declared.Axis.{Axis}
 use Rattle.edge.specs.Walk.{beyond}
 use Rattle.edge.specs.Room.{coordinateLimit, extentLimit, crossingLimit}
 use Rattle.edge.specs.Code.{AxisRoom}
-use Rattle.edge.proofs.Bits.{back, fits-within, back-is, within-back, result-is}
+use Rattle.integers.specs.Bits.{back, fits-within, back-is, within-back, result-is}
 use Rattle.edge.specs.Lemmas.Records.{samples-eq}
-use Rattle.edge.proofs.Held.{held-within}
+use Rattle.integers.specs.Held.{held-within}
 use Rattle.edge.proofs.Sizes.{coordinate}
 use Rattle.edge.proofs.AxisNumbers.{scale-held, sign-held}
 use Rattle.edge.proofs.beyond_at.Statement.{statement}

@@ -6,7 +6,7 @@ use Rattle.edge.specs.declared.Span.{Span}
 use Rattle.edge.specs.Inside.{Inside}
 use Rattle.edge.specs.WalkOf.{Decides}
 use Rattle.edge.specs.Laws.WalkInside.{span-decides}
-use Rattle.edge.proofs.Bits.{field-is}
+use Rattle.integers.specs.Bits.{field-is}
 use Rattle.edge.proofs.comes_inside.Statement.{statement}
 use Rattle.edge.proofs.comes_inside.Tie as tie
 

@@ -5,7 +5,7 @@ use mir.Facts.{toZ-ofZ}
 use borrow.Author.Needs.{needs}
 use Rattle.integers.specs.MinMax.{min, max}
 use Rattle.integers.specs.Clamp.{clamp}
-use Rattle.edge.proofs.Bits.{result-is, field-is}
+use Rattle.integers.specs.Bits.{result-is, field-is}
 use Rattle.edge.specs.Lemmas.Records.{samples-eq}
 use Rattle.edge.proofs.cuts_of.Statement.{statement}
 use Rattle.edge.proofs.cuts_of.Tie as tie

@@ -13,7 +13,7 @@ use Rattle.edge.specs.declared.Span.{Span}
 use Rattle.edge.specs.Room.{Even}
 use Rattle.edge.specs.Laws.Zero.{details-zero}
 use Rattle.edge.specs.Laws.WalkInside.{span-of-inside}
-use Rattle.edge.proofs.Bits.{back, back-is}
+use Rattle.integers.specs.Bits.{back, back-is}
 use Rattle.edge.proofs.Sizes.{width-within, width≥0}
 use Rattle.edge.proofs.details_over.Statement.{statement}
 use Rattle.edge.proofs.details_over.Tie as tie

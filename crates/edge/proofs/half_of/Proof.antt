@@ -11,7 +11,7 @@ use Rattle.integers.specs.Linear.{le, lt, eq, _&_, linear, lin≤, lin≡}
 use Rattle.integers.specs.Division.{truncated, quot-fits}
 use Rattle.integers.specs.Machine.{known}
 use Rattle.edge.specs.Room.{Even}
-use Rattle.edge.proofs.Bits.{back}
+use Rattle.integers.specs.Bits.{back}
 use Rattle.edge.proofs.half_of.Statement.{statement}
 use Rattle.edge.proofs.half_of.Tie as tie
 

@@ -4,7 +4,7 @@ use mir.Facts.{toZ-ofZ}
 use borrow.Author.Needs.{needs}
 use Rattle.integers.specs.MinMax.{min, max}
 use Rattle.integers.specs.Clamp.{clamp}
-use Rattle.edge.proofs.Bits.{result-is}
+use Rattle.integers.specs.Bits.{result-is}
 use Rattle.edge.proofs.hold.Statement.{statement}
 use Rattle.edge.proofs.hold.Tie as tie
 

@@ -8,7 +8,7 @@ use mir.Syntax.{w64}
 use mir.Val.{ofZ}
 use mir.Facts.{sfits-lit}
 use borrow.Author.Tests.{eqb-true, eqb-false}
-use Rattle.edge.proofs.Bits.{same-bits}
+use Rattle.integers.specs.Bits.{same-bits}
 use Rattle.edge.proofs.is_octilinear.Statement.{statement}
 use Rattle.edge.proofs.is_octilinear.Tie as tie
 

@@ -4,7 +4,7 @@ use lib.IntN.{pos}
 use mir.Facts.{toZ-ofZ}
 use borrow.Author.Needs.{needs}
 use Rattle.integers.specs.MinMax.{min, max}
-use Rattle.edge.proofs.Bits.{result-is, field-is}
+use Rattle.integers.specs.Bits.{result-is, field-is}
 use Rattle.edge.specs.Lemmas.Records.{span-eq}
 use Rattle.edge.proofs.meet.Statement.{statement}
 use Rattle.edge.proofs.meet.Tie as tie

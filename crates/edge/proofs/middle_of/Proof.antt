@@ -1,5 +1,5 @@
 -- The step at which a direction crosses the middle between its sides.
-use Rattle.edge.proofs.Held.{held-mul, held-fits, held-back}
+use Rattle.integers.specs.Held.{held-mul, held-fits, held-back}
 use Rattle.edge.proofs.AxisNumbers.{sign-held, diff-held, side-held, width-held, sum-held}
 use Rattle.edge.proofs.middle_of.Statement.{statement}
 use Rattle.edge.proofs.middle_of.Tie as tie

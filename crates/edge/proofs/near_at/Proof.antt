@@ -4,7 +4,7 @@ use lib.IntN.{ℤ, _-ℤ_}
 use borrow.Author.Needs.{needs}
 use mir.Facts.{toZ-ofZ}
 use Rattle.integers.specs.MinMax.{min}
-use Rattle.edge.proofs.Bits.{back-is, result-is}
+use Rattle.integers.specs.Bits.{back-is, result-is}
 use Rattle.edge.specs.Lemmas.Records.{samples-eq}
 use Rattle.edge.proofs.near_at.Statement.{statement}
 use Rattle.edge.proofs.near_at.Tie as tie

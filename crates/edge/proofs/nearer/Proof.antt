@@ -8,7 +8,7 @@ use Rattle.integers.specs.Linear.{_&_}
 use Rattle.integers.specs.Within.{bounds}
 use Rattle.integers.specs.MinMax.{min}
 use Rattle.integers.specs.Machine.{machine, linfits, known}
-use Rattle.edge.proofs.Bits.{result-is}
+use Rattle.integers.specs.Bits.{result-is}
 use Rattle.edge.proofs.nearer.Statement.{statement}
 use Rattle.edge.proofs.nearer.Tie as tie
 

@@ -12,9 +12,9 @@ use Rattle.integers.specs.Machine.{machine, linfits, known}
 use Rattle.edge.specs.declared.Axis.{Axis}
 use Rattle.edge.specs.declared.Samples.{Samples}
 use Rattle.edge.specs.Code.{AxisRoom, SamplesWithin, SamplesClosed, beyondAt, nearAt, pieceSum}
-use Rattle.edge.proofs.Bits.{back, back-is, result-is}
+use Rattle.integers.specs.Bits.{back, back-is, result-is}
 use Rattle.edge.specs.Lemmas.Records.{details-eq}
-use Rattle.edge.proofs.Held.{held-fits, held-back, held-within}
+use Rattle.integers.specs.Held.{held-fits, held-back, held-within}
 use Rattle.edge.proofs.AxisNumbers.{width-held, beyond-within, near-within}
 use Rattle.edge.proofs.PieceBounds.{pieceLimit, pieceSum-within}
 use Rattle.edge.proofs.numerators.Statement.{statement}

@@ -2,8 +2,8 @@
 use Prim.Native.Nat.{_+_, _*_}
 use lib.IntN.{_+ℤ_, _-ℤ_, _*ℤ_}
 use Rattle.integers.specs.Units.{widthTimesExtentLimit}
-use Rattle.edge.proofs.Bits.{back}
-use Rattle.edge.proofs.Held.{Held, held-number, held-add, held-sub, held-mul, held-fits, held-back}
+use Rattle.integers.specs.Bits.{back}
+use Rattle.integers.specs.Held.{Held, held-number, held-add, held-sub, held-mul, held-fits, held-back}
 use Rattle.edge.proofs.piece.Statement.{statement}
 use Rattle.edge.proofs.piece.Tie as tie
 

@@ -7,7 +7,7 @@ use Rattle.integers.specs.Units.{widthTimesExtentLimit}
 use Rattle.integers.specs.Linear.{_&_}
 use Rattle.integers.specs.Within.{Within, bounds}
 use Rattle.integers.specs.Machine.{machine, linfits, known}
-use Rattle.edge.proofs.Bits.{back, fits-within, back-is, result-is}
+use Rattle.integers.specs.Bits.{back, fits-within, back-is, result-is}
 use Rattle.edge.proofs.PieceBounds.{pieceLimit, piece-within}
 use Rattle.edge.proofs.pieces.Statement.{statement}
 use Rattle.edge.proofs.pieces.Tie as tie

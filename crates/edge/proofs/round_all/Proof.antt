@@ -10,7 +10,7 @@ use mir.Facts.{toZ-ofZ}
 use Rattle.integers.specs.Ring.{read, ring}
 use Rattle.integers.specs.Rounding.{roundHalfAway}
 use Rattle.integers.specs.RoundHalfAway.{roundHalfAway-mul}
-use Rattle.edge.proofs.Bits.{result-is, field-is}
+use Rattle.integers.specs.Bits.{result-is, field-is}
 use Rattle.edge.specs.Lemmas.Records.{details-eq}
 use Rattle.edge.proofs.round_all.Statement.{statement}
 use Rattle.edge.proofs.round_all.Tie as tie

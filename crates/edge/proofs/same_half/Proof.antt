@@ -13,7 +13,7 @@ use Rattle.integers.specs.Within.{bounds}
 use Rattle.integers.specs.Machine.{machine, linfits, tests}
 use Rattle.integers.specs.MinMax.{min, max, min-≤ˡ, min-≤ʳ, min-greatest, max-≥ˡ, max-≥ʳ, max-least}
 use Rattle.edge.specs.Code.{SameHalf, first, second}
-use Rattle.edge.proofs.Bits.{back}
+use Rattle.integers.specs.Bits.{back}
 use Rattle.edge.proofs.same_half.Statement.{statement}
 use Rattle.edge.proofs.same_half.Tie as tie
 

@@ -9,8 +9,8 @@ use Rattle.integers.specs.Units.{widthTimesExtentLimit}
 use Rattle.edge.specs.Room.{coordinateLimit}
 use Rattle.edge.specs.WalkOf.{Decides}
 use Rattle.edge.specs.Code.{SameHalf}
-use Rattle.edge.proofs.Bits.{back, back-is}
-use Rattle.edge.proofs.Held.{held-within}
+use Rattle.integers.specs.Bits.{back, back-is}
+use Rattle.integers.specs.Held.{held-within}
 use Rattle.edge.proofs.Sizes.{coordinate, half-high}
 use Rattle.edge.proofs.same_quarter.Statement.{statement}
 use Rattle.edge.proofs.same_quarter.Tie as tie

@@ -5,7 +5,7 @@ use borrow.Author.Needs.{needs}
 use Rattle.edge.specs.declared.Axis.{Axis}
 use Rattle.edge.specs.declared.Span.{Span}
 use Rattle.edge.specs.Cuts.{stripOf, meet}
-use Rattle.edge.proofs.Bits.{back-is, fits-within}
+use Rattle.integers.specs.Bits.{back-is, fits-within}
 use Rattle.edge.proofs.Sizes.{width-within}
 use Rattle.edge.proofs.WalkRoom.{x-room, y-room, back-room, steps-within}
 use Rattle.edge.proofs.span_in.Statement.{statement}

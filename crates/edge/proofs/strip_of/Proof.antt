@@ -6,7 +6,7 @@ use mir.Facts.{toZ-ofZ}
 use Rattle.integers.specs.Linear.{none!, linear, lin≤}
 use Rattle.integers.specs.Within.{within-le}
 use Rattle.edge.specs.Cuts.{strip}
-use Rattle.edge.proofs.Held.{held-fits, held-back, held-within}
+use Rattle.integers.specs.Held.{held-fits, held-back, held-within}
 use Rattle.edge.proofs.AxisNumbers.{sign-held, diff-held, side-held, width-held, sum-held}
 use Rattle.edge.proofs.strip_of.Statement.{statement}
 use Rattle.edge.proofs.strip_of.Tie as tie

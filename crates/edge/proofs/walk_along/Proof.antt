@@ -19,9 +19,9 @@ use Rattle.edge.specs.Lemmas.Ends.{sign-extent, sign-zero}
 use Rattle.edge.specs.Room.{extentLimit}
 use Rattle.edge.specs.Octilinear.{Octilinear, level, upright, diagonal, unitSteps}
 use Rattle.edge.specs.WalkOf.{fine, unit}
-use Rattle.edge.proofs.Bits.{back, result-is, back-is}
+use Rattle.integers.specs.Bits.{back, result-is, back-is}
 use Rattle.edge.specs.Lemmas.Records.{axis-eq}
-use Rattle.edge.proofs.Held.{Held, held-mul, held-fits, held-back}
+use Rattle.integers.specs.Held.{Held, held-mul, held-fits, held-back}
 use Rattle.edge.proofs.Sizes.{difference, extent-within}
 use Rattle.edge.proofs.walk_along.Statement.{statement}
 use Rattle.edge.proofs.walk_along.Tie as tie

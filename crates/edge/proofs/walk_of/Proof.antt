@@ -3,8 +3,8 @@ use mathlib.Core.Path.{_∙_, ap}
 use lib.IntN.{pos}
 use borrow.Author.Needs.{needs}
 use Rattle.edge.specs.Walk.{extent, sign}
-use Rattle.edge.proofs.Bits.{result-is}
-use Rattle.edge.proofs.Held.{held-fits, held-back, held-within}
+use Rattle.integers.specs.Bits.{result-is}
+use Rattle.integers.specs.Held.{held-fits, held-back, held-within}
 use Rattle.edge.proofs.Sizes.{difference}
 use Rattle.edge.proofs.walk_of.Statement.{statement}
 use Rattle.edge.proofs.walk_of.Tie as tie

@@ -2,7 +2,7 @@
 -- term of its two end points.
 --
 -- Main results
---   quarter, halfSign           quarter (i, j) of a cell, and the sign 1 − 2 b that a detail has in half b
+--   quarter                 quarter (i, j) of a cell; a detail has the sign `halfSign i` or `halfSign j` there
 --   boundary                the term of an end point
 --   edge-quarter            4 × area in quarter (i, j) = area ± h ± (v and the end points' terms) ± d, for the four quarters at once
 use mathlib.Core.Path.{_≡_, sym, _∙_, ap, ap₂}
@@ -15,6 +15,7 @@ use Rattle.integers.specs.Order.{nonneg, ≤ℤ-mul-nonneg}
 use Rattle.integers.specs.Linear.{le, eq, _&_, linear, lin≤}
 use Rattle.integers.specs.Clamp.{clamp}
 use Rattle.integers.specs.Tent.{tent, half-of}
+use Rattle.integers.specs.HalfSign.{halfSign}
 use Rattle.integers.specs.Trapezoid.{S, S-cong, S-product, S-addˡ, S-addʳ, S-scaleˡ, S-scaleʳ}
 use Rattle.edge.specs.declared.Edge.{Edge}
 use Rattle.edge.specs.declared.Cell.{Cell}
@@ -26,10 +27,6 @@ use Rattle.edge.specs.Integrals.{along, areaNum, hNum, vNum, dNum}
 -- quarter (i, j) of a cell whose width is half + half: i is 0 on the left and 1 on the right, j is 0 above and 1 below
 abbrev pub quarter : Cell → ℤ → ℕ → ℕ → Cell
 quarter c half i j = record { left = c .left +ℤ pos i *ℤ half; top = c .top +ℤ pos j *ℤ half; width = half }
-
--- 1 in half 0, −1 in half 1
-abbrev pub halfSign : ℕ → ℤ
-halfSign b = pos 1 -ℤ pos 2 *ℤ pos b
 
 -- A function of the end point alone: around a closed contour each point is the end of one edge and the start of the next, and it cancels.
 unfoldable pub boundary : Cell → ℤ → ℤ → ℤ

@@ -13,10 +13,10 @@ use lib.Dec.{T, leb}
 use lib.IntN.{ℤ, pos, negℤ, _+ℤ_, _-ℤ_, _*ℤ_}
 use mir.Syntax.{w64}
 use mir.Val.{SFits}
 use Rattle.integers.specs.Ring.{read, ring}
 use Rattle.integers.specs.Within.{Within, within-add, within-sub, within-neg, within-mul}
 use Rattle.integers.specs.Machine.{known}
-use Rattle.edge.proofs.Bits.{back, greatest, fits-within, back-is}
+use Rattle.integers.specs.Bits.{back, greatest, fits-within, back-is}
 
 pub record Held (b : ℕ) (z v : ℤ) : Type 0 where
   pub is : z ≡ v

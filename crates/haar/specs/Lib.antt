@@ -1,0 +1,15 @@
+-- The table of Haar coefficients, figures and greys. Read in this order.
+
+-- cells, and the sign of a detail at a child, in any number of dimensions
+pub mod Cells
+pub mod Signs
+-- the table: where each coefficient stands
+pub mod Table
+-- figures, pictures, greys
+pub mod Figures
+pub mod Pictures
+pub mod Greys
+-- two dimensions
+pub mod Plane
+-- laws
+pub mod Laws

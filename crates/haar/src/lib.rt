@@ -1,0 +1,1 @@
+// Figures and greys from a table of Haar coefficients.
