@@ -1,3 +1,20 @@
--- What other crates, and the proofs of the code, know of the definitions.
+-- What other crates, and the proofs of the code, know of the definitions. Read in this order.
+
+-- cells, and where their details stand
 pub mod Cells
+pub mod Layout
+-- the signs: one row for each detail, orthogonal
+pub mod Signs
+-- figures: of a child, bounds, sums of tables
 pub mod Figures
+pub mod FigureBounds
+pub mod FigureLinear
+-- 01's own formula, in two dimensions
+pub mod Quarters
+-- pictures
+pub mod Pictures
+-- totals of a level
+pub mod CellSums
+pub mod Totals
+-- greys
+pub mod Greys

@@ -11,5 +11,7 @@ pub mod Pictures
 pub mod Greys
 -- two dimensions
 pub mod Plane
+-- what the code asks and leaves
+pub mod Code
 -- laws
 pub mod Laws

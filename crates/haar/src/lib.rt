@@ -1,1 +1,212 @@
 // Figures and greys from a table of Haar coefficients.
+ghost use mathlib.Core.Path.{_≡_};
+ghost use Prim.Native.Nat.{suc, _+_, _*_, _/_, _%_, _^_, _<_, _≤_};
+ghost use lib.ListN.{length};
+ghost use lib.IntN.{ℤ, pos, _+ℤ_, _*ℤ_};
+ghost use Rattle.integers.specs.Units.{greatestDepth, greatestSide};
+ghost use Rattle.integers.specs.Within.{Within};
+ghost use Rattle.integers.specs.HalfSign.{halfSign};
+ghost use Rattle.haar.specs.Cells.{children};
+ghost use Rattle.haar.specs.Table.{place, stored};
+ghost use Rattle.haar.specs.Pictures.{picture as pictureOf};
+ghost use Rattle.haar.specs.Greys.{greyOf};
+ghost use Rattle.haar.specs.Plane.{dimensions, hDetail, at, figureAt};
+ghost use Rattle.haar.specs.Code.{Drawable, DrawableCell, Refinable, RefinableRow, HasRow, DrawableRow, DrawablePicture, Shaded, scaleLimit, PairRoom, pairOf, IsPair};
+
+// Details to a cell: h, v and d.
+const DETAILS: usize = 3;
+
+// The cells across the deepest level.
+const GREATEST_SIDE: usize = 64;
+
+// Two children of a cell that lie side by side, in its upper or in its lower half.
+struct Pair {
+    left: i64,
+    right: i64,
+}
+
+// How many cells a level has in each direction.
+fn cells_across(level: usize) -> usize
+    requires { ⌜ level ≤ greatestDepth ⌝ }
+    ensures { λ r. ⌜ r ≡ 2 ^ level ⌝ }
+{
+    1usize << level
+}
+
+// A level's scale, 4^level: how many times a cell's area its figure is.
+fn scale_of(level: usize) -> i64
+    requires { ⌜ level < greatestDepth ⌝ }
+    ensures { λ r. ⌜ r ≡ pos (children dimensions ^ level) ⌝ }
+{
+    let n = cells_across(level);
+    (n * n) as i64
+}
+
+// Where the details of cell (x, y) of a level begin.
+fn first_detail(level: usize, x: usize, y: usize) -> usize
+    requires { ⌜ (level < greatestDepth) × (x < 2 ^ level) × (y < 2 ^ level) ⌝ }
+    ensures { λ r. ⌜ r ≡ place dimensions level (at x y) hDetail ⌝ }
+{
+    let n = cells_across(level);
+    n * n + DETAILS * (y * n + x)
+}
+
+// A level's scale with the sign that v has in row cy of the level below: plus above, minus below.
+fn turned(scale: i64, cy: usize) -> i64
+    requires { ⌜ Within (pos scaleLimit) scale ⌝ }
+    ensures { λ r. ⌜ r ≡ halfSign (cy % 2) *ℤ scale ⌝ }
+{
+    if cy % 2 == 0 { scale } else { 0 - scale }
+}
+
+// f + (± 4^j) v, plus and minus 4^j h + (± 4^j) d.
+fn beside(f: i64, scale: i64, turned: i64, h: i64, v: i64, d: i64) -> Pair
+    requires { ⌜ PairRoom f scale turned h v d ⌝ }
+    ensures { λ r. ⌜ r ≡ pairOf f scale turned h v d ⌝ }
+{
+    let middle = f + turned * v;
+    let across = scale * h + turned * d;
+    Pair {
+        left: middle + across,
+        right: middle - across,
+    }
+}
+
+// The two children in row cy of cell (x, cy / 2) of a level, from its figure f.
+fn children_in_row(table: &[i64], level: usize, x: usize, cy: usize, f: i64) -> Pair
+    requires { ⌜ Refinable (now table) level x cy f ⌝ }
+    ensures { λ r. ⌜ IsPair (now (table .entry)) level x cy r ⌝ }
+{
+    let first = first_detail(level, x, cy / 2);
+    let scale = scale_of(level);
+    beside(
+        f,
+        scale,
+        turned(scale, cy),
+        table[first],
+        table[first + 1],
+        table[first + 2],
+    )
+}
+
+// The figure of cell (cx, cy) of the level below `level`, from its parent's figure f.
+fn child_figure(table: &[i64], level: usize, cx: usize, cy: usize, f: i64) -> i64
+    requires { ⌜ Refinable (now table) level (cx / 2) cy f ⌝ }
+    ensures { λ r. ⌜ r ≡ figureAt (stored dimensions (now (table .entry))) (suc level) cx cy ⌝ }
+{
+    let pair = children_in_row(table, level, cx / 2, cy, f);
+    if cx % 2 == 0 {
+        return pair.left;
+    }
+    pair.right
+}
+
+// The figure of one cell.
+pub fn figure_at(table: &[i64], level: usize, cx: usize, cy: usize) -> i64
+    requires { ⌜ DrawableCell (now table) level cx cy ⌝ }
+    ensures { λ r. ⌜ r ≡ figureAt (stored dimensions (now (table .entry))) level cx cy ⌝ }
+{
+    if level == 0 {
+        return table[0];
+    }
+    let above = level - 1;
+    let f = figure_at(table, above, cx / 2, cy / 2);
+    child_figure(table, above, cx, cy, f)
+}
+
+// The figures of row cy of the level below `level`, from those of its parents, which stand in the same list: the last cell first, so that no figure is
+// overwritten before it is used.
+fn refine_row(table: &[i64], level: usize, cy: usize, row: &mut [i64])
+    requires { ⌜ RefinableRow (now table) level cy (now row) ⌝ }
+    ensures { λ _. ⌜ HasRow (λ z. z) (pos 0) (now (table .entry)) (suc level) cy (now (row .entry)) (now (row .exit)) ⌝ }
+{
+    let mut x = cells_across(level);
+    while 0 < x {
+        x -= 1;
+        let pair = children_in_row(table, level, x, cy, row[x]);
+        let left = pair.left;
+        let right = pair.right;
+        row[2 * x] = left;
+        row[2 * x + 1] = right;
+    }
+}
+
+// The figures of row cy of a level.
+fn figure_row(table: &[i64], level: usize, cy: usize, row: &mut [i64])
+    requires { ⌜ DrawableRow (now table) level cy (length (now row)) ⌝ }
+    ensures { λ _. ⌜ HasRow (λ z. z) (pos 0) (now (table .entry)) level cy (now (row .entry)) (now (row .exit)) ⌝ }
+{
+    row[0] = table[0];
+    for j in 0..level {
+        refine_row(table, j, cy >> (level - j - 1), row);
+    }
+}
+
+// The figures of a level, row by row.
+pub fn figures(table: &[i64], level: usize, picture: &mut [i64])
+    requires { ⌜ DrawablePicture (now table) level (length (now picture)) ⌝ }
+    ensures { λ _. ⌜ now (picture .exit) ≡ pictureOf dimensions (λ z. z) (stored dimensions (now (table .entry))) level ⌝ }
+{
+    let n = cells_across(level);
+    for y in 0..n {
+        figure_row(table, level, y, &mut picture[y * n..]);
+    }
+}
+
+// ---- greys
+
+// A pixel has 2^17 units, so a tile's full figure is a power of two too, and to divide by it is to shift.
+const PIXEL_BITS: usize = 17;
+
+// White is 0.
+const FULL_GREY: u8 = 255;
+
+// The grey of a figure on a tile of side 2^depth. It is held before it is rounded: the figure is compared with 0 and with the full figure first,
+// so that what is multiplied by 255 is below 2^29, whatever the figure.
+pub fn grey_of(figure: i64, depth: usize) -> u8
+    requires { ⌜ depth ≤ greatestDepth ⌝ }
+    ensures { λ r. ⌜ r ≡ greyOf (2 ^ depth) figure ⌝ }
+{
+    if figure <= 0 {
+        return 0;
+    }
+    let ink = figure as usize;
+    let bits = PIXEL_BITS + 2 * depth;
+    let full = 1usize << bits;
+    if full <= ink {
+        return FULL_GREY;
+    }
+    let half = full / 2;
+    ((FULL_GREY as usize * ink + half) >> bits) as u8
+}
+
+// The greys of the first n figures of a row.
+fn shade(figures: &[i64], n: usize, depth: usize, greys: &mut [u8])
+    requires { ⌜ (n ≤ length (now figures)) × (n ≤ length (now greys)) × (n ≤ greatestSide) × (depth ≤ greatestDepth) ⌝ }
+    ensures { λ _. ⌜ Shaded (greyOf (2 ^ depth)) n (now (figures .entry)) (now (greys .entry)) (now (greys .exit)) ⌝ }
+{
+    for x in 0..n {
+        greys[x] = grey_of(figures[x], depth);
+    }
+}
+
+// The greys of row cy of a level, on a tile of side 2^depth. The figures stand in a row of their own.
+fn grey_row(table: &[i64], depth: usize, level: usize, cy: usize, greys: &mut [u8])
+    requires { ⌜ DrawableRow (now table) level cy (length (now greys)) × (depth ≤ greatestDepth) ⌝ }
+    ensures { λ _. ⌜ HasRow (greyOf (2 ^ depth)) 0 (now (table .entry)) level cy (now (greys .entry)) (now (greys .exit)) ⌝ }
+{
+    let mut row = [0i64; GREATEST_SIDE];
+    figure_row(table, level, cy, &mut row);
+    shade(&row, cells_across(level), depth, greys);
+}
+
+// The greys of a level, row by row, on a tile of side 2^depth.
+pub fn greys(table: &[i64], depth: usize, level: usize, picture: &mut [u8])
+    requires { ⌜ DrawablePicture (now table) level (length (now picture)) × (depth ≤ greatestDepth) ⌝ }
+    ensures { λ _. ⌜ now (picture .exit) ≡ pictureOf dimensions (greyOf (2 ^ depth)) (stored dimensions (now (table .entry))) level ⌝ }
+{
+    let n = cells_across(level);
+    for y in 0..n {
+        grey_row(table, depth, level, y, &mut picture[y * n..]);
+    }
+}

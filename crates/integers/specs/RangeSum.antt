@@ -4,14 +4,17 @@
 --   Σ-zero, Σ-suc                      one term at a time
 --   Σ-cong                             equal terms, equal sums
 --   Σ-add, Σ-scale, Σ-neg              linearity
+--   Σ-const                            equal terms add up to their number times one
 --   Σ-telescope                        differences of neighbours add up to the difference of the ends
---   Σ-split                            the first p terms, and the rest
-use mathlib.Core.Path.{_≡_, refl, _∙_, ap, ap₂}
+--   Σ-split, Σ-first                   the first p terms, and the rest; the first term, and the rest
+--   Σ-rows, Σ-power                    m rows of n terms, row by row; m ^ n rows of m
+--   Σ-swap                             two sums, in the other order
+use mathlib.Core.Path.{_≡_, refl, sym, _∙_, ap, ap₂}
 use mathlib.Core.List.{[], _∷_}
-use Prim.Native.Nat.{ℕ, zero, suc, _+_, _<_}
-use native.Mathlib.Nat.{add-suc, add-zero}
+use Prim.Native.Nat.{ℕ, zero, suc, _+_, _*_, _^_, _<_}
+use native.Mathlib.Nat.{add-suc, add-zero, zero-mul, suc-mul, pow-suc}
 use native.Mathlib.Omega.{arith}
-use lib.IntN.{ℤ, pos, negℤ, _+ℤ_, _-ℤ_, _*ℤ_}
+use lib.IntN.{ℤ, pos, negℤ, _+ℤ_, _-ℤ_, _*ℤ_, *ℤ-zero}
 use Rattle.integers.specs.Ring.{read, ring, comb}
 
 unfoldable pub Σ< : ℕ → (ℕ → ℤ) → ℤ
@@ -46,6 +49,11 @@ unfolding Σ<
 Σ-neg zero f = refl
 Σ-neg (suc n) f = comb (Σ< n (λ t. negℤ (f t)) ∷ Σ< n f ∷ f n ∷ []) (Σ-neg n f) (search read depth 40) tt
 
+pub Σ-const : (n : ℕ) (z : ℤ) → Σ< n (λ t. z) ≡ pos n *ℤ z
+unfolding Σ<
+Σ-const zero z = ring (z ∷ []) (search read depth 40) tt
+Σ-const (suc n) z = comb (Σ< n (λ t. z) ∷ pos n ∷ z ∷ []) (Σ-const n z) (search read depth 40) tt
+
 pub Σ-telescope : (n : ℕ) (f : ℕ → ℤ) → Σ< n (λ t. f (suc t) -ℤ f t) ≡ f n -ℤ f 0
 unfolding Σ<
 Σ-telescope zero f = ring (f 0 ∷ []) (search read depth 40) tt
@@ -57,3 +65,21 @@ unfolding Σ<
 Σ-split p (suc n) f =
     ap (λ k. Σ< k f) (add-suc p n)
     ∙ comb (Σ< (p + n) f ∷ Σ< p f ∷ Σ< n (λ t. f (p + t)) ∷ f (p + n) ∷ []) (Σ-split p n f) (search read depth 40) tt
+
+pub Σ-first : (n : ℕ) (f : ℕ → ℤ) → Σ< (suc n) f ≡ f 0 +ℤ Σ< n (λ t. f (suc t))
+unfolding Σ<
+Σ-first zero f = ring (f 0 ∷ []) (search read depth 40) tt
+Σ-first (suc n) f = comb (Σ< (suc n) f ∷ f 0 ∷ Σ< n (λ t. f (suc t)) ∷ f (suc n) ∷ []) (Σ-first n f) (search read depth 40) tt
+
+pub Σ-rows : (m n : ℕ) (f : ℕ → ℤ) → Σ< (m * n) f ≡ Σ< m (λ y. Σ< n (λ x. f (y * n + x)))
+unfolding Σ<
+Σ-rows zero n f = ap (λ k. Σ< k f) (zero-mul n)
+Σ-rows (suc m) n f = ap (λ k. Σ< k f) (suc-mul m n) ∙ Σ-split (m * n) n f ∙ ap (λ z. z +ℤ Σ< n (λ x. f (m * n + x))) (Σ-rows m n f)
+
+pub Σ-power : (m n : ℕ) (f : ℕ → ℤ) → Σ< (m ^ suc n) f ≡ Σ< (m ^ n) (λ y. Σ< m (λ x. f (y * m + x)))
+Σ-power m n f = ap (λ k. Σ< k f) (pow-suc m n) ∙ Σ-rows (m ^ n) m f
+
+pub Σ-swap : (m n : ℕ) (f : ℕ → ℕ → ℤ) → Σ< m (λ s. Σ< n (f s)) ≡ Σ< n (λ t. Σ< m (λ s. f s t))
+unfolding Σ<
+Σ-swap zero n f = sym (Σ-const n (pos 0) ∙ *ℤ-zero (pos n))
+Σ-swap (suc m) n f = ap (λ z. z +ℤ Σ< n (f m)) (Σ-swap m n f) ∙ sym (Σ-add n (λ t. Σ< m (λ s. f s t)) (f m))

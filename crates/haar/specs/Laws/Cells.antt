@@ -5,7 +5,7 @@
 --   childNumber-lt, below-parent                         a cell of a level is one of `children n` children of a cell one level up
 --   rowMajor-lt, below-cellAt                            places and cells of a level
 --   cellAt-rowMajor, rowMajor-cellAt                     each cell has one place, and each place one cell
---   level-cells                                          a level has as many cells in each direction, to the power n, as it has in all
+--   level-cells, level-square                            a level has as many cells as it has in each direction, to the power n
 use mathlib.Core.Path.{_≡_, refl, sym, _∙_, ap, ap₂}
 use Prim.Native.Nat.{ℕ, zero, suc, _+_, _*_, _/_, _%_, _^_, _<_}
 use native.Mathlib.Omega.{arith}
@@ -88,3 +88,6 @@ one-pow (suc j) = pow-suc 1 j ∙ (let e = one-pow j in omega arith)
 pub level-cells : (n j : ℕ) → (2 ^ j) ^ n ≡ children n ^ j
 level-cells zero j = pow-zero (2 ^ j) ∙ sym (one-pow j)
 level-cells (suc n) j = pow-suc (2 ^ j) n ∙ ap (λ x. x * 2 ^ j) (level-cells n j) ∙ sym (ap (λ x. x ^ j) (pow-suc 2 n) ∙ mul-pow (2 ^ n) 2 j)
+
+pub level-square : (j : ℕ) → 2 ^ j * 2 ^ j ≡ children 2 ^ j
+level-square j = sym (mul-pow 2 2 j)

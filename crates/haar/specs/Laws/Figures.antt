@@ -1,15 +1,21 @@
--- Figures: from a cell to its children.
+-- Figures: from a cell to its children, and the coefficients that a figure depends on.
 --
 -- Main results
 --   figure-root                  the root's figure
 --   figure-child                 a child's figure is its parent's, and the details with the child's signs
-use mathlib.Core.Path.{_≡_, refl, ap₂}
-use Prim.Native.Nat.{ℕ, zero, suc, _^_, _<_}
-use lib.IntN.{ℤ, pos, _+ℤ_, _*ℤ_}
-use Rattle.haar.specs.Cells.{children, Cell, parent, childNumber, child}
+--   SameBelow n depth t u        two tables have the same root, and the same details at every level below the depth
+--   figure-same                  they have the same figures, down to the depth
+use mathlib.Core.Path.{_≡_, refl, ap, ap₂, subst}
+use Prim.Native.Nat.{ℕ, zero, suc, _^_, _<_, _≤_}
+use native.Mathlib.Omega.{arith}
+use native.Mathlib.Nat.{pow-succ'}
+use lib.IntN.{pos, _+ℤ_, _*ℤ_}
+use Rattle.integers.specs.RangeSum.{Σ-cong}
+use Rattle.haar.specs.Signs.{sign}
+use Rattle.haar.specs.Cells.{children, details, Cell, Below, parent, childNumber, child}
 use Rattle.haar.specs.Table.{Coefficients}
 use Rattle.haar.specs.Figures.{signedDetails, figure}
-use Rattle.haar.specs.Laws.Cells.{parent-child, childNumber-child}
+use Rattle.haar.specs.Laws.Cells.{parent-child, childNumber-child, below-parent}
 
 pub figure-root : (n : ℕ) (t : Coefficients n) (cell : Cell n) → figure n t 0 cell ≡ t .root
 unfolding figure
@@ -19,4 +25,23 @@ pub figure-child : (n : ℕ) (t : Coefficients n) (j : ℕ) (cell : Cell n) (c :
     → figure n t (suc j) (child n cell c) ≡ figure n t j cell +ℤ pos (children n ^ j) *ℤ signedDetails n (t .detail j cell) c
 unfolding figure
 figure-child n t j cell c h =
-    ap₂ (λ (q : Cell n) (k : ℕ). figure n t j q +ℤ pos (children n ^ j) *ℤ signedDetails n (t .detail j q) k) (parent-child n cell c) (childNumber-child n cell c h)
+    ap₂ (λ (q : Cell n) (k : ℕ). figure n t j q +ℤ pos (children n ^ j) *ℤ signedDetails n (t .detail j q) k)
+    (parent-child n cell c) (childNumber-child n cell c h)
+
+-- ---- a figure depends on its own coefficients alone
+pub record SameBelow (n depth : ℕ) (t u : Coefficients n) : Type 0 where
+  pub same-root : t .root ≡ u .root
+  pub same-detail : (j : ℕ) → j < depth → (cell : Cell n) → Below n (2 ^ j) cell → (e : ℕ) → 1 ≤ e → e ≤ details n
+      → t .detail j cell e ≡ u .detail j cell e
+
+pub figure-same : {n depth : ℕ} {t u : Coefficients n} → SameBelow n depth t u → (level : ℕ) → level ≤ depth
+    → (cell : Cell n) → Below n (2 ^ level) cell → figure n t level cell ≡ figure n u level cell
+unfolding signedDetails figure
+figure-same s zero h cell b = s .same-root
+figure-same {n} {depth} {t} {u} s (suc j) h cell b =
+    let q = parent n cell in
+    let c = childNumber n cell in
+    let p = below-parent n (2 ^ j) cell (subst (λ m. Below n m cell) (pow-succ' 2 j) b) in
+    ap₂ (λ f d. f +ℤ pos (children n ^ j) *ℤ d) (figure-same s j (omega arith) q p)
+    (Σ-cong (details n) (λ k. sign (suc k) c *ℤ t .detail j q (suc k)) (λ k. sign (suc k) c *ℤ u .detail j q (suc k))
+    (λ k i. ap (λ x. sign (suc k) c *ℤ x) (s .same-detail j h q p (suc k) (omega arith) i)))

@@ -1,0 +1,16 @@
+-- What the functions' proofs share.
+
+-- how large a level's numbers are
+pub mod LevelNumbers
+-- a cell's details, and the figures of two children
+pub mod CellDetails
+-- one level up
+pub mod Drawable
+-- a row of figures, from the row one level up
+pub mod Refining
+-- a row of figures, from the root down
+pub mod Descent
+-- a picture, row by row
+pub mod PictureRows
+-- the full figure as a power of two, and a grey as a quotient by it
+pub mod GreyNumbers

@@ -1,0 +1,94 @@
+-- What the code asks of a table, and what it has drawn on the way to a picture.
+--
+-- Definitions
+--   InRange entries                       question 9: every entry is from −2^40 to 2^40
+--   Drawable entries level                a table from which a level can be drawn
+--   Row g o t level cy l                  a list begins with g of the figures of row cy
+--   Rows g o t level rows l               and with those of the first rows
+use mathlib.Core.Path.{_≡_}
+use mathlib.Core.List.{List}
+use Prim.Native.Nat.{ℕ, suc, _+_, _*_, _-_, _/_, _^_, _<_, _≤_}
+use lib.ListN.{length, getD}
+use lib.IntN.{ℤ, pos, _+ℤ_, _-ℤ_, _*ℤ_}
+use Rattle.integers.specs.Units.{greatestDepth, entryLimit}
+use Rattle.integers.specs.Within.{Within}
+use Rattle.haar.specs.Cells.{children}
+use Rattle.haar.specs.Table.{Coefficients, stored}
+use Rattle.haar.specs.Plane.{dimensions, figureAt}
+use Rattle.haar.specs.declared.Pair.{Pair}
+
+pub record InRange (entries : List ℤ) : Type 0 where
+  pub each : (i : ℕ) → Within (pos entryLimit) (getD entries i (pos 0))
+
+-- as deep as a tile can be, with entries for all levels above this one
+pub record Drawable (entries : List ℤ) (level : ℕ) : Type 0 where
+  pub shallow : level ≤ greatestDepth
+  pub long : children dimensions ^ level ≤ length entries
+  pub in-range : InRange entries
+
+-- cell (cx, cy) of a level that can be drawn
+pub record DrawableCell (entries : List ℤ) (level cx cy : ℕ) : Type 0 where
+  pub drawable : Drawable entries level
+  pub x : cx < 2 ^ level
+  pub y : cy < 2 ^ level
+
+-- cell (x, cy / 2), whose children are in row cy of the level below, and its figure
+pub record Refinable (entries : List ℤ) (level x cy : ℕ) (f : ℤ) : Type 0 where
+  pub drawable : Drawable entries (suc level)
+  pub x-below : x < 2 ^ level
+  pub y-below : cy < 2 ^ suc level
+  pub is-figure : f ≡ figureAt (stored dimensions entries) level x (cy / 2)
+
+-- ---- two children that lie side by side
+-- the greatest scale of a cell that has children: 4^5
+abbrev pub scaleLimit : ℕ
+scaleLimit = children dimensions ^ (greatestDepth - 1)
+
+-- a cell's figure, its level's scale, the same with v's sign, and its details
+pub record PairRoom (f scale turned h v d : ℤ) : Type 0 where
+  pub figure-within : Within (pos (scaleLimit * entryLimit)) f
+  pub scale-within : Within (pos scaleLimit) scale
+  pub turned-within : Within (pos scaleLimit) turned
+  pub h-within : Within (pos entryLimit) h
+  pub v-within : Within (pos entryLimit) v
+  pub d-within : Within (pos entryLimit) d
+
+abbrev pub pairOf : ℤ → ℤ → ℤ → ℤ → ℤ → ℤ → Pair
+pairOf f scale turned h v d = record {
+  left = f +ℤ turned *ℤ v +ℤ (scale *ℤ h +ℤ turned *ℤ d);
+  right = f +ℤ turned *ℤ v -ℤ (scale *ℤ h +ℤ turned *ℤ d);
+}
+
+-- the figures of the two children of cell (x, cy / 2) in row cy
+pub record IsPair (entries : List ℤ) (level x cy : ℕ) (p : Pair) : Type 0 where
+  pub left-is : p .left ≡ figureAt (stored dimensions entries) (suc level) (2 * x) cy
+  pub right-is : p .right ≡ figureAt (stored dimensions entries) (suc level) (2 * x + 1) cy
+
+-- ---- rows
+-- l begins with g of the figures of row cy of a level
+pub record Row {A : Type 0} (g : ℤ → A) (o : A) (entries : List ℤ) (level cy : ℕ) (l : List A) : Type 0 where
+  pub entry : (x : ℕ) → x < 2 ^ level → getD l x o ≡ g (figureAt (stored dimensions entries) level x cy)
+
+-- a row is drawn into `before`, which becomes `after`
+pub record HasRow {A : Type 0} (g : ℤ → A) (o : A) (entries : List ℤ) (level cy : ℕ) (before after : List A) : Type 0 where
+  pub row : Row g o entries level cy after
+  pub same-length : length after ≡ length before
+
+pub record DrawableRow (entries : List ℤ) (level cy room : ℕ) : Type 0 where
+  pub drawable : Drawable entries level
+  pub y-below : cy < 2 ^ level
+  pub enough : 2 ^ level ≤ room
+
+-- the row of the parents of row cy, with room for it
+pub record RefinableRow (entries : List ℤ) (level cy : ℕ) (l : List ℤ) : Type 0 where
+  pub drawable : DrawableRow entries (suc level) cy (length l)
+  pub parents : Row (λ z. z) (pos 0) entries level (cy / 2) l
+
+pub record DrawablePicture (entries : List ℤ) (level room : ℕ) : Type 0 where
+  pub drawable : Drawable entries level
+  pub exact : room ≡ children dimensions ^ level
+
+-- the first n of `after` are g of the figures'
+pub record Shaded (g : ℤ → ℕ) (n : ℕ) (figures : List ℤ) (before after : List ℕ) : Type 0 where
+  pub each : (x : ℕ) → x < n → getD after x 0 ≡ g (getD figures x (pos 0))
+  pub same-length : length after ≡ length before
