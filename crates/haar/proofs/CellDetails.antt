@@ -5,13 +5,13 @@
 --   detail-is                          and are its details
 --   parent-within, scale-within        how large its figure and its scale are
 --   pair-is                            the two figures
-use mathlib.Core.Path.{_≡_, refl, sym, _∙_, ap, ap₂, subst, subst⁻¹}
+use mathlib.Core.Path.{_≡_, refl, sym, _∙_, ap, ap₂}
 use mathlib.Core.List.{List, [], _∷_}
 use Prim.Native.Nat.{ℕ, suc, _+_, _*_, _-_, _/_, _%_, _^_, _<_, _≤_}
 use native.Mathlib.Omega.{arith}
 use native.Mathlib.Nat.{pow-succ', pow-le-pow-right, mul-le-mul-right}
 use lib.ListN.{length, getD}
-use lib.IntN.{ℤ, pos, negsuc, _+ℤ_, _-ℤ_, _*ℤ_}
+use lib.IntN.{ℤ, pos, _+ℤ_, _*ℤ_}
 use Rattle.integers.specs.Units.{greatestDepth, entryLimit}
 use Rattle.integers.specs.Ring.{read, ring}
 use Rattle.integers.specs.Order.{pos-≤ℤ, nonneg}
@@ -19,8 +19,8 @@ use Rattle.integers.specs.Within.{Within, within-is, within-le, within-self}
 use Rattle.integers.specs.HalfSign.{halfSign}
 use Rattle.haar.specs.Cells.{children}
 use Rattle.haar.specs.Table.{place, stored}
-use Rattle.haar.specs.Plane.{dimensions, hDetail, vDetail, dDetail, at, figureAt}
-use Rattle.haar.specs.Code.{InRange, Drawable, Refinable, scaleLimit, pairOf, IsPair}
+use Rattle.haar.specs.Plane.{dimensions, hDetail, vDetail, dDetail, at, figureAt, figureIn}
+use Rattle.haar.specs.Code.{Refinable, scaleLimit, pairOf, IsPair}
 use Rattle.haar.specs.Laws.Layout.{place-plane, place-high}
 use Rattle.haar.specs.Laws.FigureBounds.{stored-bounded, figure-within}
 use Rattle.haar.specs.Laws.Quarters.{figure-quarter}
@@ -62,8 +62,8 @@ detail-is entries level x y k e g = ap (λ i. getD entries i (pos 0)) (omega (ar
 
 -- a child in half b of x
 child-in-half : (entries : List ℤ) (level x cy b : ℕ) → b < 2
-    → figureAt (stored dimensions entries) (suc level) (2 * x + b) cy
-    ≡ figureAt (stored dimensions entries) level x (cy / 2)
+    → figureIn entries (suc level) (2 * x + b) cy
+    ≡ figureIn entries level x (cy / 2)
     +ℤ pos (children dimensions ^ level)
     *ℤ (halfSign b *ℤ stored dimensions entries .detail level (at x (cy / 2)) hDetail
     +ℤ halfSign (cy % 2) *ℤ stored dimensions entries .detail level (at x (cy / 2)) vDetail
@@ -79,7 +79,7 @@ child-in-half entries level x cy b g =
     {x = (2 * x + b) / 2} {y = x} {u = (2 * x + b) % 2} {v = b} (omega arith) (omega arith)
 
 -- the two children: h turns from the left one to the right one, and d with it
-pub pair-is : (entries : List ℤ) (level x cy : ℕ) {f scale turned h v d : ℤ} → f ≡ figureAt (stored dimensions entries) level x (cy / 2)
+pub pair-is : (entries : List ℤ) (level x cy : ℕ) {f scale turned h v d : ℤ} → f ≡ figureIn entries level x (cy / 2)
     → scale ≡ pos (children dimensions ^ level) → turned ≡ halfSign (cy % 2) *ℤ scale
     → h ≡ stored dimensions entries .detail level (at x (cy / 2)) hDetail
     → v ≡ stored dimensions entries .detail level (at x (cy / 2)) vDetail

@@ -13,8 +13,7 @@ use lib.ListN.{length, getD, set, length-set}
 use lib.Seq.{getD-set-same}
 use lib.Pow.{pow-pos, pow-mono, shr-lt, shr-shr}
 use lib.IntN.{ℤ, pos}
-use Rattle.haar.specs.Table.{stored}
-use Rattle.haar.specs.Plane.{dimensions, figureAt}
+use Rattle.haar.specs.Plane.{figureIn}
 use Rattle.haar.specs.Code.{Row, HasRow, DrawableRow, RefinableRow}
 use Rattle.haar.proofs.Drawable.{shallower}
 
@@ -25,7 +24,7 @@ module _ (entries : List ℤ) (level cy room : ℕ) where
     pub figures : Row (λ z. z) (pos 0) entries j (cy / 2 ^ (level - j)) row
 
 module _ {entries : List ℤ} {level cy room : ℕ} (d : DrawableRow entries level cy room) where
-  pub descent-start : (row : List ℤ) {root : ℤ} → length row ≡ room → root ≡ figureAt (stored dimensions entries) 0 0 (cy / 2 ^ (level - 0))
+  pub descent-start : (row : List ℤ) {root : ℤ} → length row ≡ room → root ≡ figureIn entries 0 0 (cy / 2 ^ (level - 0))
       → Descent entries level cy room (set row 0 root) 0
   descent-start row {root} l e = record {
     reached = omega arith;
@@ -33,7 +32,7 @@ module _ {entries : List ℤ} {level cy room : ℕ} (d : DrawableRow entries lev
     figures = record {
       entry = λ x h.
           let z : 0 ≡ x = omega arith in
-          subst (λ x. getD (set row 0 root) x (pos 0) ≡ figureAt (stored dimensions entries) 0 x (cy / 2 ^ (level - 0))) z
+          subst (λ x. getD (set row 0 root) x (pos 0) ≡ figureIn entries 0 x (cy / 2 ^ (level - 0))) z
           (getD-set-same row 0 root (pos 0) (omega (arith, d .enough, pow-pos level)) ∙ e);
     };
   }

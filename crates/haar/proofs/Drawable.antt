@@ -7,7 +7,7 @@
 --   cell-refinable              a cell, from its parent's figure
 use mathlib.Core.Path.{_≡_, sym, _∙_}
 use mathlib.Core.List.{List}
-use Prim.Native.Nat.{ℕ, suc, _/_, _^_, _<_, _≤_}
+use Prim.Native.Nat.{ℕ, suc, _/_, _<_, _≤_}
 use native.Mathlib.Omega.{arith}
 use native.Mathlib.Nat.{pow-succ', one-le-pow, pow-le-pow-right}
 use lib.ListN.{length, getD}
@@ -15,14 +15,14 @@ use lib.IntN.{ℤ, pos}
 use Rattle.integers.specs.Bits.{back, back-is}
 use Rattle.haar.specs.Cells.{children}
 use Rattle.haar.specs.Table.{stored}
-use Rattle.haar.specs.Plane.{dimensions, figureAt}
+use Rattle.haar.specs.Plane.{dimensions, figureIn}
 use Rattle.haar.specs.Code.{Drawable, DrawableCell, Refinable}
 use Rattle.haar.specs.Laws.Quarters.{figure-top}
 
 pub root-inside : {entries : List ℤ} {level : ℕ} → Drawable entries level → 0 < length entries
 root-inside {level = level} d = omega (arith, d .long, one-le-pow level (children dimensions) (omega arith))
 
-pub root-is : {entries : List ℤ} {level : ℕ} → Drawable entries level → (cx cy : ℕ) → back (getD entries 0 (pos 0)) ≡ figureAt (stored dimensions entries) 0 cx cy
+pub root-is : {entries : List ℤ} {level : ℕ} → Drawable entries level → (cx cy : ℕ) → back (getD entries 0 (pos 0)) ≡ figureIn entries 0 cx cy
 root-is {entries} d cx cy = back-is tt (d .in-range .each 0) ∙ sym (figure-top (stored dimensions entries) cx cy)
 
 pub shallower : {entries : List ℤ} {level j : ℕ} → Drawable entries level → j ≤ level → Drawable entries j
@@ -37,5 +37,5 @@ cell-above {level = level} d =
     record { drawable = shallower (d .drawable) (omega arith); x = omega (arith, d .x, pow-succ' 2 level); y = omega (arith, d .y, pow-succ' 2 level) }
 
 pub cell-refinable : {entries : List ℤ} {level cx cy : ℕ} {f : ℤ} → DrawableCell entries (suc level) cx cy
-    → f ≡ figureAt (stored dimensions entries) level (cx / 2) (cy / 2) → Refinable entries level (cx / 2) cy f
+    → f ≡ figureIn entries level (cx / 2) (cy / 2) → Refinable entries level (cx / 2) cy f
 cell-refinable d e = record { drawable = d .drawable; x-below = cell-above d .x; y-below = d .y; is-figure = e }

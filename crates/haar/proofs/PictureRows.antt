@@ -5,22 +5,20 @@
 --   rows-start, rows-step, rows-end                none, one more, all: the picture
 --   RowPlace, row-place                            where the next row stands
 --   row-asks                                       and what it asks for
-use mathlib.Core.Path.{_≡_, refl, sym, _∙_, ap, subst, subst⁻¹}
+use mathlib.Core.Path.{_≡_, sym, _∙_, ap, subst}
 use mathlib.Core.List.{List, _++_}
-use Prim.Native.Nat.{ℕ, suc, _+_, _*_, _-_, _^_, _<_, _≤_}
+use Prim.Native.Nat.{ℕ, _+_, _*_, _-_, _^_, _<_, _≤_}
 use native.Mathlib.Omega.{arith}
 use native.Mathlib.Decide.{decLt}
 use native.Mathlib.Nat.{mul-le-mul, mul-le-mul-right}
 use borrow.Rule.Slice.PartMut.{putMid, postOf, same-len-mid}
 use lib.ListN.{length, getD, take, drop, length-drop, List·getD-append}
-use lib.Seq.{length-take-le, take-all, getD-take, getD-append-add}
+use lib.Seq.{length-take-le, getD-take, getD-append-add}
 use lib.Pow.{pow-mono}
 use lib.IntN.{ℤ}
 use Rattle.integers.specs.Units.{greatestSide}
-use Rattle.haar.specs.Cells.{children}
 use Rattle.haar.specs.Table.{stored}
-use Rattle.haar.specs.Pictures.{picture}
-use Rattle.haar.specs.Plane.{dimensions, figureAt}
+use Rattle.haar.specs.Plane.{dimensions, figureIn, pictureIn}
 use Rattle.haar.specs.Code.{HasRow, DrawableRow, DrawablePicture}
 use Rattle.haar.specs.Laws.Cells.{level-square}
 use Rattle.haar.specs.Laws.Pictures.{picture-of-entries}
@@ -28,7 +26,7 @@ use Rattle.haar.specs.Laws.Pictures.{picture-of-entries}
 module _ {A : Type 0} (g : ℤ → A) (o : A) (entries : List ℤ) (level room n : ℕ) where
   pub record PictureRows (l : List A) (rows : ℕ) : Type 0 where
     pub same-length : length l ≡ room
-    pub entry : (x y : ℕ) → x < n → y < rows → getD l (y * n + x) o ≡ g (figureAt (stored dimensions entries) level x y)
+    pub entry : (x y : ℕ) → x < n → y < rows → getD l (y * n + x) o ≡ g (figureIn entries level x y)
 
 -- the n places of row y, from y × n on
 pub record RowPlace (n room y : ℕ) : Type 0 where
@@ -62,7 +60,7 @@ module _ {entries : List ℤ} {level room n : ℕ} (d : DrawablePicture entries 
         → PictureRows g o entries level room n (putMid (y * n) (length l - y * n) l part) (y + 1)
     rows-step {l} {part} {y} r h w = record {
       same-length = same-len-mid a (length l - a) l part (w .same-length) ∙ r .same-length;
-      entry = λ x i p q. elim (decLt i y) [ yes k ↦ earlier x i p k | no k ↦ (let z : y ≡ i = omega arith in subst (λ i. getD drawn (i * n + x) o ≡ g (figureAt (stored dimensions entries) level x i)) z (this x p)) ];
+      entry = λ x i p q. elim (decLt i y) [ yes k ↦ earlier x i p k | no k ↦ (let z : y ≡ i = omega arith in subst (λ i. getD drawn (i * n + x) o ≡ g (figureIn entries level x i)) z (this x p)) ];
     }
       where
         a : ℕ
@@ -74,12 +72,12 @@ module _ {entries : List ℤ} {level room n : ℕ} (d : DrawablePicture entries 
         head : length (take a l) ≡ a
         head = length-take-le a l (omega (arith, row-place h .inside, r .same-length))
 
-        earlier : (x i : ℕ) → x < n → i < y → getD drawn (i * n + x) o ≡ g (figureAt (stored dimensions entries) level x i)
+        earlier : (x i : ℕ) → x < n → i < y → getD drawn (i * n + x) o ≡ g (figureIn entries level x i)
         earlier x i p k =
             let b : i * n + x < a = omega (arith, mul-le-mul-right n k) in
             List·getD-append (take a l) (part ++ postOf a (length l - a) l) o (i * n + x) (omega (arith, head)) ∙ getD-take a l (i * n + x) o b ∙ r .entry x i p k
 
-        this : (x : ℕ) → x < n → getD drawn (a + x) o ≡ g (figureAt (stored dimensions entries) level x y)
+        this : (x : ℕ) → x < n → getD drawn (a + x) o ≡ g (figureIn entries level x y)
         this x p =
             ap (λ k. getD drawn (k + x) o) (sym head) ∙ getD-append-add (take a l) (part ++ postOf a (length l - a) l) x o
             ∙ List·getD-append part (postOf a (length l - a) l) o x (omega (arith, w .same-length, part-length l (r .same-length) h, row-place h .inside))
@@ -88,7 +86,7 @@ module _ {entries : List ℤ} {level room n : ℕ} (d : DrawablePicture entries 
     pub rows-start : {l : List A} → length l ≡ room → PictureRows g o entries level room n l 0
     rows-start q = record { same-length = q; entry = λ x y h k. absurd (omega arith) }
 
-    pub rows-end : {l : List A} {y : ℕ} → PictureRows g o entries level room n l y → n ≤ y → l ≡ picture dimensions g (stored dimensions entries) level
+    pub rows-end : {l : List A} {y : ℕ} → PictureRows g o entries level room n l y → n ≤ y → l ≡ pictureIn g entries level
     rows-end {l} {y} r h =
         picture-of-entries o g (stored dimensions entries) level l (r .same-length ∙ d .exact)
-        (subst (λ m. (cx cy : ℕ) → cx < m → cy < m → getD l (cy * m + cx) o ≡ g (figureAt (stored dimensions entries) level cx cy)) e (λ cx cy p q. r .entry cx cy p (omega arith)))
+        (subst (λ m. (cx cy : ℕ) → cx < m → cy < m → getD l (cy * m + cx) o ≡ g (figureIn entries level cx cy)) e (λ cx cy p q. r .entry cx cy p (omega arith)))

@@ -17,16 +17,15 @@ use lib.Seq.{getD-set-same, getD-set-other}
 use lib.Pow.{pow-mono}
 use lib.IntN.{ℤ, pos}
 use Rattle.integers.specs.Units.{greatestSide}
-use Rattle.haar.specs.Table.{stored}
-use Rattle.haar.specs.Plane.{dimensions, figureAt}
-use Rattle.haar.specs.Code.{Row, HasRow, RefinableRow, Refinable}
+use Rattle.haar.specs.Plane.{figureIn}
+use Rattle.haar.specs.Code.{HasRow, RefinableRow, Refinable}
 
 module _ (entries : List ℤ) (level cy : ℕ) (before : List ℤ) where
   pub record Refining (row : List ℤ) (x : ℕ) : Type 0 where
     pub few : x ≤ 2 ^ level
     pub same-length : length row ≡ length before
-    pub parents : (i : ℕ) → i < x → getD row i (pos 0) ≡ figureAt (stored dimensions entries) level i (cy / 2)
-    pub children : (i : ℕ) → 2 * x ≤ i → i < 2 ^ suc level → getD row i (pos 0) ≡ figureAt (stored dimensions entries) (suc level) i cy
+    pub parents : (i : ℕ) → i < x → getD row i (pos 0) ≡ figureIn entries level i (cy / 2)
+    pub children : (i : ℕ) → 2 * x ≤ i → i < 2 ^ suc level → getD row i (pos 0) ≡ figureIn entries (suc level) i cy
 
 module _ {entries : List ℤ} {level cy : ℕ} {before : List ℤ} (r : RefinableRow entries level cy before) where
   pub refining-start : {x : ℕ} → x ≡ 2 ^ level → Refining entries level cy before before x
@@ -54,7 +53,7 @@ module _ {entries : List ℤ} {level cy : ℕ} {before : List ℤ} (r : Refinabl
   }
 
   pub refining-step : {row : List ℤ} {x : ℕ} {left right : ℤ} → 0 < x → Refining entries level cy before row x
-      → left ≡ figureAt (stored dimensions entries) (suc level) (2 * (x - 1)) cy → right ≡ figureAt (stored dimensions entries) (suc level) (2 * (x - 1) + 1) cy
+      → left ≡ figureIn entries (suc level) (2 * (x - 1)) cy → right ≡ figureIn entries (suc level) (2 * (x - 1) + 1) cy
       → Refining entries level cy before (set (set row (2 * (x - 1)) left) (2 * (x - 1) + 1) right) (x - 1)
   refining-step {row} {x} {left} {right} h g el er = record {
     few = omega (arith, g .few);
@@ -69,19 +68,19 @@ module _ {entries : List ℤ} {level cy : ℕ} {before : List ℤ} (r : Refinabl
       elsewhere : (i : ℕ) → i ≢ a → i ≢ a + 1 → getD (set (set row a left) (a + 1) right) i (pos 0) ≡ getD row i (pos 0)
       elsewhere i p q = getD-set-other (set row a left) (a + 1) i right (pos 0) q ∙ getD-set-other row a i left (pos 0) p
 
-      at-left : getD (set (set row a left) (a + 1) right) a (pos 0) ≡ figureAt (stored dimensions entries) (suc level) a cy
+      at-left : getD (set (set row a left) (a + 1) right) a (pos 0) ≡ figureIn entries (suc level) a cy
       at-left = getD-set-other (set row a left) (a + 1) a right (pos 0) (omega arith) ∙ getD-set-same row a left (pos 0) (omega (arith, refining-room g)) ∙ el
 
-      at-right : getD (set (set row a left) (a + 1) right) (a + 1) (pos 0) ≡ figureAt (stored dimensions entries) (suc level) (a + 1) cy
+      at-right : getD (set (set row a left) (a + 1) right) (a + 1) (pos 0) ≡ figureIn entries (suc level) (a + 1) cy
       at-right = getD-set-same (set row a left) (a + 1) right (pos 0) (omega (arith, refining-room g, length-set row a left)) ∙ er
 
-      child : (i : ℕ) → a ≤ i → i < 2 ^ suc level → getD (set (set row a left) (a + 1) right) i (pos 0) ≡ figureAt (stored dimensions entries) (suc level) i cy
+      child : (i : ℕ) → a ≤ i → i < 2 ^ suc level → getD (set (set row a left) (a + 1) right) i (pos 0) ≡ figureIn entries (suc level) i cy
       child i k l =
           elim (decLt i (a + 1)) [
-            | yes p ↦ (let e : a ≡ i = omega arith in subst (λ u. getD (set (set row a left) (a + 1) right) u (pos 0) ≡ figureAt (stored dimensions entries) (suc level) u cy) e at-left)
+            | yes p ↦ (let e : a ≡ i = omega arith in subst (λ u. getD (set (set row a left) (a + 1) right) u (pos 0) ≡ figureIn entries (suc level) u cy) e at-left)
             | no p ↦
                 elim (decLt i (a + 2)) [
-                  | yes q ↦ (let e : a + 1 ≡ i = omega arith in subst (λ u. getD (set (set row a left) (a + 1) right) u (pos 0) ≡ figureAt (stored dimensions entries) (suc level) u cy) e at-right)
+                  | yes q ↦ (let e : a + 1 ≡ i = omega arith in subst (λ u. getD (set (set row a left) (a + 1) right) u (pos 0) ≡ figureIn entries (suc level) u cy) e at-right)
                   | no q ↦ elsewhere i (omega arith) (omega arith) ∙ g .children i (omega arith) l
                 ]
           ]

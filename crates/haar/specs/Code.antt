@@ -13,8 +13,7 @@ use lib.IntN.{ℤ, pos, _+ℤ_, _-ℤ_, _*ℤ_}
 use Rattle.integers.specs.Units.{greatestDepth, entryLimit}
 use Rattle.integers.specs.Within.{Within}
 use Rattle.haar.specs.Cells.{children}
-use Rattle.haar.specs.Table.{Coefficients, stored}
-use Rattle.haar.specs.Plane.{dimensions, figureAt}
+use Rattle.haar.specs.Plane.{dimensions, figureIn}
 use Rattle.haar.specs.declared.Pair.{Pair}
 
 pub record InRange (entries : List ℤ) : Type 0 where
@@ -37,7 +36,7 @@ pub record Refinable (entries : List ℤ) (level x cy : ℕ) (f : ℤ) : Type 0 
   pub drawable : Drawable entries (suc level)
   pub x-below : x < 2 ^ level
   pub y-below : cy < 2 ^ suc level
-  pub is-figure : f ≡ figureAt (stored dimensions entries) level x (cy / 2)
+  pub is-figure : f ≡ figureIn entries level x (cy / 2)
 
 -- ---- two children that lie side by side
 -- the greatest scale of a cell that has children: 4^5
@@ -61,13 +60,13 @@ pairOf f scale turned h v d = record {
 
 -- the figures of the two children of cell (x, cy / 2) in row cy
 pub record IsPair (entries : List ℤ) (level x cy : ℕ) (p : Pair) : Type 0 where
-  pub left-is : p .left ≡ figureAt (stored dimensions entries) (suc level) (2 * x) cy
-  pub right-is : p .right ≡ figureAt (stored dimensions entries) (suc level) (2 * x + 1) cy
+  pub left-is : p .left ≡ figureIn entries (suc level) (2 * x) cy
+  pub right-is : p .right ≡ figureIn entries (suc level) (2 * x + 1) cy
 
 -- ---- rows
 -- l begins with g of the figures of row cy of a level
 pub record Row {A : Type 0} (g : ℤ → A) (o : A) (entries : List ℤ) (level cy : ℕ) (l : List A) : Type 0 where
-  pub entry : (x : ℕ) → x < 2 ^ level → getD l x o ≡ g (figureAt (stored dimensions entries) level x cy)
+  pub entry : (x : ℕ) → x < 2 ^ level → getD l x o ≡ g (figureIn entries level x cy)
 
 -- a row is drawn into `before`, which becomes `after`
 pub record HasRow {A : Type 0} (g : ℤ → A) (o : A) (entries : List ℤ) (level cy : ℕ) (before after : List A) : Type 0 where

@@ -5,11 +5,14 @@
 --   hDetail, vDetail, dDetail    the numbers of h, v and d
 --   at cx cy                     cell (cx, cy)
 --   figureAt t level cx cy       its figure
+--   figureIn, pictureIn          figures and pictures from a list of entries
+use mathlib.Core.List.{List}
 use Prim.Native.Nat.{ℕ}
 use lib.IntN.{ℤ}
 use Rattle.haar.specs.Cells.{Cell}
-use Rattle.haar.specs.Table.{Coefficients}
+use Rattle.haar.specs.Table.{Coefficients, stored}
 use Rattle.haar.specs.Figures.{figure}
+use Rattle.haar.specs.Pictures.{picture}
 
 abbrev pub dimensions : ℕ
 dimensions = 2
@@ -30,3 +33,10 @@ at cx cy = (cx, (cy, tt))
 
 abbrev pub figureAt : Coefficients dimensions → ℕ → ℕ → ℕ → ℤ
 figureAt t level cx cy = figure dimensions t level (at cx cy)
+
+-- what is drawn of a table, the list of its entries
+abbrev pub figureIn : List ℤ → ℕ → ℕ → ℕ → ℤ
+figureIn entries level cx cy = figureAt (stored dimensions entries) level cx cy
+
+abbrev pub pictureIn : {A : Type 0} → (ℤ → A) → List ℤ → ℕ → List A
+pictureIn g entries level = picture dimensions g (stored dimensions entries) level

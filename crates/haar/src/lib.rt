@@ -2,16 +2,15 @@
 ghost use mathlib.Core.Path.{_≡_};
 ghost use Prim.Native.Nat.{suc, _+_, _*_, _/_, _%_, _^_, _<_, _≤_};
 ghost use lib.ListN.{length};
-ghost use lib.IntN.{ℤ, pos, _+ℤ_, _*ℤ_};
+ghost use lib.IntN.{pos, _*ℤ_};
 ghost use Rattle.integers.specs.Units.{greatestDepth, greatestSide};
 ghost use Rattle.integers.specs.Within.{Within};
 ghost use Rattle.integers.specs.HalfSign.{halfSign};
 ghost use Rattle.haar.specs.Cells.{children};
-ghost use Rattle.haar.specs.Table.{place, stored};
-ghost use Rattle.haar.specs.Pictures.{picture as pictureOf};
+ghost use Rattle.haar.specs.Table.{place};
 ghost use Rattle.haar.specs.Greys.{greyOf};
-ghost use Rattle.haar.specs.Plane.{dimensions, hDetail, at, figureAt};
-ghost use Rattle.haar.specs.Code.{Drawable, DrawableCell, Refinable, RefinableRow, HasRow, DrawableRow, DrawablePicture, Shaded, scaleLimit, PairRoom, pairOf, IsPair};
+ghost use Rattle.haar.specs.Plane.{dimensions, hDetail, at, figureIn, pictureIn};
+ghost use Rattle.haar.specs.Code.{DrawableCell, Refinable, RefinableRow, HasRow, DrawableRow, DrawablePicture, Shaded, scaleLimit, PairRoom, pairOf, IsPair};
 
 // Details to a cell: h, v and d.
 const DETAILS: usize = 3;
@@ -92,7 +91,7 @@ fn children_in_row(table: &[i64], level: usize, x: usize, cy: usize, f: i64) -> 
 // The figure of cell (cx, cy) of the level below `level`, from its parent's figure f.
 fn child_figure(table: &[i64], level: usize, cx: usize, cy: usize, f: i64) -> i64
     requires { ⌜ Refinable (now table) level (cx / 2) cy f ⌝ }
-    ensures { λ r. ⌜ r ≡ figureAt (stored dimensions (now (table .entry))) (suc level) cx cy ⌝ }
+    ensures { λ r. ⌜ r ≡ figureIn (now (table .entry)) (suc level) cx cy ⌝ }
 {
     let pair = children_in_row(table, level, cx / 2, cy, f);
     if cx % 2 == 0 {
@@ -104,7 +103,7 @@ fn child_figure(table: &[i64], level: usize, cx: usize, cy: usize, f: i64) -> i6
 // The figure of one cell.
 pub fn figure_at(table: &[i64], level: usize, cx: usize, cy: usize) -> i64
     requires { ⌜ DrawableCell (now table) level cx cy ⌝ }
-    ensures { λ r. ⌜ r ≡ figureAt (stored dimensions (now (table .entry))) level cx cy ⌝ }
+    ensures { λ r. ⌜ r ≡ figureIn (now (table .entry)) level cx cy ⌝ }
 {
     if level == 0 {
         return table[0];
@@ -145,7 +144,7 @@ fn figure_row(table: &[i64], level: usize, cy: usize, row: &mut [i64])
 // The figures of a level, row by row.
 pub fn figures(table: &[i64], level: usize, picture: &mut [i64])
     requires { ⌜ DrawablePicture (now table) level (length (now picture)) ⌝ }
-    ensures { λ _. ⌜ now (picture .exit) ≡ pictureOf dimensions (λ z. z) (stored dimensions (now (table .entry))) level ⌝ }
+    ensures { λ _. ⌜ now (picture .exit) ≡ pictureIn (λ z. z) (now (table .entry)) level ⌝ }
 {
     let n = cells_across(level);
     for y in 0..n {
@@ -203,7 +202,7 @@ fn grey_row(table: &[i64], depth: usize, level: usize, cy: usize, greys: &mut [u
 // The greys of a level, row by row, on a tile of side 2^depth.
 pub fn greys(table: &[i64], depth: usize, level: usize, picture: &mut [u8])
     requires { ⌜ DrawablePicture (now table) level (length (now picture)) × (depth ≤ greatestDepth) ⌝ }
-    ensures { λ _. ⌜ now (picture .exit) ≡ pictureOf dimensions (greyOf (2 ^ depth)) (stored dimensions (now (table .entry))) level ⌝ }
+    ensures { λ _. ⌜ now (picture .exit) ≡ pictureIn (greyOf (2 ^ depth)) (now (table .entry)) level ⌝ }
 {
     let n = cells_across(level);
     for y in 0..n {

@@ -9,13 +9,16 @@
 --   Σ-split, Σ-first                   the first p terms, and the rest; the first term, and the rest
 --   Σ-rows, Σ-power                    m rows of n terms, row by row; m ^ n rows of m
 --   Σ-swap                             two sums, in the other order
+--   Σ-within                           n terms within b add up to within n times b
 use mathlib.Core.Path.{_≡_, refl, sym, _∙_, ap, ap₂}
 use mathlib.Core.List.{[], _∷_}
 use Prim.Native.Nat.{ℕ, zero, suc, _+_, _*_, _^_, _<_}
 use native.Mathlib.Nat.{add-suc, add-zero, zero-mul, suc-mul, pow-suc}
 use native.Mathlib.Omega.{arith}
 use lib.IntN.{ℤ, pos, negℤ, _+ℤ_, _-ℤ_, _*ℤ_, *ℤ-zero}
+use lib.Signed.{≤ℤ-refl}
 use Rattle.integers.specs.Ring.{read, ring, comb}
+use Rattle.integers.specs.Within.{Within, within-is, within-add, within-self}
 
 unfoldable pub Σ< : ℕ → (ℕ → ℤ) → ℤ
 Σ< zero f = pos 0
@@ -83,3 +86,8 @@ pub Σ-swap : (m n : ℕ) (f : ℕ → ℕ → ℤ) → Σ< m (λ s. Σ< n (f s)
 unfolding Σ<
 Σ-swap zero n f = sym (Σ-const n (pos 0) ∙ *ℤ-zero (pos n))
 Σ-swap (suc m) n f = ap (λ z. z +ℤ Σ< n (f m)) (Σ-swap m n f) ∙ sym (Σ-add n (λ t. Σ< m (λ s. f s t)) (f m))
+
+pub Σ-within : {b : ℤ} (n : ℕ) (f : ℕ → ℤ) → ((k : ℕ) → Within b (f k)) → Within (pos n *ℤ b) (Σ< n f)
+unfolding Σ<
+Σ-within {b} zero f h = within-is (ring (b ∷ []) (search read depth 40) tt) refl (within-self (≤ℤ-refl (pos 0)))
+Σ-within {b} (suc n) f h = within-is (ring (b ∷ pos n ∷ []) (search read depth 40) tt) refl (within-add (Σ-within n f h) (h n))

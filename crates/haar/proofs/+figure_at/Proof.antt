@@ -6,8 +6,7 @@ use native.Mathlib.Omega.{arith}
 use borrow.Fn.Kinds.{In}
 use borrow.Fn.PlainCycle.{Measures, is, falls, and}
 use Rattle.integers.specs.Bits.{result-is}
-use Rattle.haar.specs.Table.{stored}
-use Rattle.haar.specs.Plane.{dimensions, figureAt}
+use Rattle.haar.specs.Plane.{figureIn}
 use Rattle.haar.specs.Code.{DrawableCell}
 use Rattle.haar.proofs.Drawable.{root-inside, root-is, cell-above, cell-refinable}
 use Rattle.haar.proofs.figure_at.Reads as figure-at
@@ -39,7 +38,7 @@ pub +figure-at-spec : {M : Type 1} → statement M
     -- and is the figure of level 0
     (λ c.
     let a = c .before .before .args in
-    root-is (c .before .before .pre .1 .drawable) (a .cx) (a .cy) ∙ ap (λ l. figureAt (stored dimensions (a .table .now)) l (a .cx) (a .cy)) (sym (c .before .if1 .taken)))
+    root-is (c .before .before .pre .1 .drawable) (a .cx) (a .cy) ∙ ap (λ l. figureIn (a .table .now) l (a .cx) (a .cy)) (sym (c .before .if1 .taken)))
     (λ c. omega arith)
     -- the parent
     (λ c κs.
@@ -52,4 +51,4 @@ pub +figure-at-spec : {M : Type 1} → statement M
     cell-refinable (subst (λ l. DrawableCell (a .table .now) l (a .cx) (a .cy)) (above (a .level) (c .before .if1 .left)) (s .pre .1)) (result-is (c .figure-at .ok) (c .figure-at .ensures)))
     (λ c.
     let a = c .before .before .before .args in
-    result-is (c .child-figure .ok) (c .child-figure .ensures) ∙ ap (λ l. figureAt (stored dimensions (a .table .now)) l (a .cx) (a .cy)) (sym (above (a .level) (c .before .before .if1 .left))))
+    result-is (c .child-figure .ok) (c .child-figure .ensures) ∙ ap (λ l. figureIn (a .table .now) l (a .cx) (a .cy)) (sym (above (a .level) (c .before .before .if1 .left))))

@@ -1,12 +1,11 @@
 -- Three products and four sums, each in range.
-use mathlib.Core.Path.{_≡_, ap₂}
+use mathlib.Core.Path.{ap₂}
 use Prim.Native.Nat.{ℕ, _+_, _*_}
-use lib.IntN.{ℤ, _+ℤ_, _-ℤ_, _*ℤ_}
+use lib.IntN.{ℤ, _+ℤ_, _*ℤ_}
 use Rattle.integers.specs.Units.{entryLimit}
 use Rattle.integers.specs.Bits.{back}
 use Rattle.integers.specs.Held.{Held, held-number, held-add, held-sub, held-mul, held-fits, held-back}
 use Rattle.haar.specs.Code.{scaleLimit}
-use Rattle.haar.specs.declared.Pair.{Pair}
 use Rattle.haar.proofs.beside.Statement.{statement}
 use Rattle.haar.proofs.beside.Tie as tie
 

@@ -4,8 +4,7 @@ use Prim.Native.Nat.{suc, _*_, _+_, _/_}
 use native.Mathlib.Omega.{arith}
 use mir.Facts.{toZ-ofZ}
 use Rattle.integers.specs.Bits.{field-is}
-use Rattle.haar.specs.Table.{stored}
-use Rattle.haar.specs.Plane.{dimensions, figureAt}
+use Rattle.haar.specs.Plane.{figureIn}
 use Rattle.haar.specs.Code.{Refinable}
 use Rattle.haar.proofs.child_figure.Statement.{statement}
 use Rattle.haar.proofs.child_figure.Tie as tie
@@ -21,7 +20,7 @@ returns c =
     let a = b .before .args in
     field-is (b .children-in-row .result .left) (c .struct-told .given .0 .1)
     ∙ b .children-in-row .ensures .left-is
-    ∙ ap (λ x. figureAt (stored dimensions (a .table .now)) (suc (a .level)) x (a .cy)) {x = 2 * (a .cx / 2)} {y = a .cx} (omega (arith, c .before .if1 .taken))
+    ∙ ap (λ x. figureIn (a .table .now) (suc (a .level)) x (a .cy)) {x = 2 * (a .cx / 2)} {y = a .cx} (omega (arith, c .before .if1 .taken))
 
 returns-2 : tie.Need-returns-2
 returns-2 c =
@@ -29,7 +28,7 @@ returns-2 c =
     let a = b .before .args in
     field-is (b .children-in-row .result .right) (c .struct-told2 .given .1 .0 .1)
     ∙ b .children-in-row .ensures .right-is
-    ∙ ap (λ x. figureAt (stored dimensions (a .table .now)) (suc (a .level)) x (a .cy)) {x = 2 * (a .cx / 2) + 1} {y = a .cx} (omega (arith, c .before .if1 .left))
+    ∙ ap (λ x. figureIn (a .table .now) (suc (a .level)) x (a .cy)) {x = 2 * (a .cx / 2) + 1} {y = a .cx} (omega (arith, c .before .if1 .left))
 
 pub child-figure-spec : {M : Type 1} → statement M
 child-figure-spec = tie.close (tie.spec children-in-row-requires returns returns-2)

@@ -1,17 +1,15 @@
 -- Three entries, the scale with and without the sign of the row, and the sums of them.
-use mathlib.Core.Path.{_≡_, refl, sym, _∙_, ap, subst⁻¹}
-use Prim.Native.Nat.{ℕ, suc, _+_, _/_, _%_}
+use mathlib.Core.Path.{refl, sym, _∙_, subst⁻¹}
+use Prim.Native.Nat.{ℕ, _/_, _%_}
 use native.Mathlib.Omega.{arith}
 use native.Mathlib.Nat.{mod-lt}
 use lib.ListN.{getD}
-use lib.IntN.{ℤ, pos, _*ℤ_}
-use borrow.Author.Needs.{needs}
+use lib.IntN.{pos}
 use Rattle.integers.specs.Units.{entryLimit}
 use Rattle.integers.specs.Within.{Within, within-is, within-sign}
-use Rattle.integers.specs.HalfSign.{halfSign, halfSign-cases}
-use Rattle.integers.specs.Bits.{back, back-is, result-is}
+use Rattle.integers.specs.HalfSign.{halfSign-cases}
+use Rattle.integers.specs.Bits.{back, back-is}
 use Rattle.integers.specs.Held.{held-number, held-within}
-use Rattle.haar.specs.Plane.{dimensions, at}
 use Rattle.haar.specs.Code.{scaleLimit, IsPair}
 use Rattle.haar.proofs.CellDetails.{CellDetails, cell-details, detail-is, half-row, parent-within, scale-within, pair-is}
 use Rattle.haar.proofs.children_in_row.Statement.{statement}

@@ -5,7 +5,7 @@ use lib.IntN.{pos}
 use mir.Syntax.{w64}
 use mir.Facts.{toZ-pos}
 use borrow.Author.Needs.{needs}
-use Rattle.haar.proofs.LevelNumbers.{LevelNumbers, level-numbers}
+use Rattle.haar.proofs.LevelNumbers.{level-numbers}
 use Rattle.haar.proofs.scale_of.Statement.{statement}
 use Rattle.haar.proofs.scale_of.Tie as tie
 

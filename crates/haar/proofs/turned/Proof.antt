@@ -1,5 +1,5 @@
 -- The scale, or its negative, by the row's parity.
-use mathlib.Core.Path.{_≡_, _∙_, ap}
+use mathlib.Core.Path.{_∙_, ap}
 use mathlib.Core.List.{[], _∷_}
 use native.Mathlib.Omega.{arith}
 use Prim.Native.Nat.{_%_}

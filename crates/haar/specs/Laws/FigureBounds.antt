@@ -6,23 +6,20 @@
 --   figure-within                then no figure is larger than b times the number of cells of its level
 use mathlib.Core.Path.{_≡_, refl, sym, _∙_, ap}
 use mathlib.Core.List.{List, [], _∷_}
-use mathlib.Core.Logic.{_⊎_, inl, inr}
 use Prim.Native.Nat.{ℕ, zero, suc, _*_, _^_}
 use native.Mathlib.Omega.{arith}
 use native.Mathlib.Nat.{one-mul, pow-suc, pow-zero}
 use lib.Pow.{pow-pos}
 use lib.ListN.{getD}
-use lib.IntN.{ℤ, pos, negsuc, negℤ, _+ℤ_, _*ℤ_}
-use lib.Bits.{bitAnd}
-use lib.Count.{ones}
-use lib.Signed.{≤ℤ-refl}
-use Rattle.integers.specs.Ring.{read, ring, comb, _⊕_, _⊗_}
-use Rattle.integers.specs.RangeSum.{Σ<, Σ-zero, Σ-suc}
-use Rattle.integers.specs.Within.{Within, within-is, within-add, within-scale, within-sign, within-self}
-use Rattle.haar.specs.Signs.{alternate, sign}
+use lib.IntN.{ℤ, pos, negℤ, _+ℤ_, _*ℤ_}
+use Rattle.integers.specs.Ring.{read, comb, _⊕_, _⊗_}
+use Rattle.integers.specs.RangeSum.{Σ-within}
+use Rattle.integers.specs.Within.{Within, within-is, within-add, within-scale, within-sign}
+use Rattle.haar.specs.Signs.{sign}
 use Rattle.haar.specs.Cells.{children, details, Cell, parent, childNumber}
 use Rattle.haar.specs.Table.{Coefficients, place, stored}
 use Rattle.haar.specs.Figures.{signedDetails, figure}
+use Rattle.haar.specs.Laws.Signs.{sign-cases}
 
 pub record Bounded (n b : ℕ) (t : Coefficients n) : Type 0 where
   pub root-within : Within (pos b) (t .root)
@@ -32,23 +29,6 @@ pub stored-bounded : (n b : ℕ) (entries : List ℤ) → ((i : ℕ) → Within 
 stored-bounded n b entries h = record { root-within = h 0; detail-within = λ j cell e. h (place n j cell e) }
 
 -- ---- one cell's details
-alternate-cases : (n : ℕ) → (alternate n ≡ pos 1) ⊎ (alternate n ≡ negsuc 0)
-unfolding alternate
-alternate-cases zero = inl refl
-alternate-cases (suc n) = turn (alternate-cases n)
-  where
-    turn : {s : ℤ} → (s ≡ pos 1) ⊎ (s ≡ negsuc 0) → (negℤ s ≡ pos 1) ⊎ (negℤ s ≡ negsuc 0)
-    turn (inl e) = inr (ap negℤ e)
-    turn (inr e) = inl (ap negℤ e)
-
-sign-cases : (e c : ℕ) → (sign e c ≡ pos 1) ⊎ (sign e c ≡ negsuc 0)
-unfolding sign
-sign-cases e c = alternate-cases (ones (bitAnd e c))
-
-Σ-within : {b : ℤ} (n : ℕ) (f : ℕ → ℤ) → ((k : ℕ) → Within b (f k)) → Within (pos n *ℤ b) (Σ< n f)
-Σ-within {b} zero f h = within-is (ring (b ∷ []) (search read depth 40) tt) (sym (Σ-zero f)) (within-self (≤ℤ-refl (pos 0)))
-Σ-within {b} (suc n) f h = within-is (ring (b ∷ pos n ∷ []) (search read depth 40) tt) (sym (Σ-suc n f)) (within-add (Σ-within n f h) (h n))
-
 signedDetails-within : {b : ℤ} (n : ℕ) (w : ℕ → ℤ) → ((e : ℕ) → Within b (w e)) → (c : ℕ) → Within (pos (details n) *ℤ b) (signedDetails n w c)
 unfolding signedDetails
 signedDetails-within n w h c = Σ-within (details n) (λ k. sign (suc k) c *ℤ w (suc k)) (λ k. within-sign (sign-cases (suc k) c) (h (suc k)))

@@ -5,41 +5,48 @@
 --   figure-top                   the whole tile's figure is the root
 --   figure-quarter               a quarter's figure
 --   figure-limit                 of a table whose entries are in range, no figure passes 2^52
-use mathlib.Core.Path.{_≡_, ap}
+use mathlib.Core.Path.{_≡_, _∙_, ap, ap₂}
 use mathlib.Core.List.{[], _∷_}
-use Prim.Native.Nat.{ℕ, zero, suc, _+_, _*_, _/_, _%_, _^_, _<_, _≤_}
+use Prim.Native.Nat.{ℕ, suc, _*_, _/_, _%_, _^_, _<_, _≤_}
 use native.Mathlib.Omega.{arith}
-use native.Mathlib.Nat.{mul-le-mul-right, pow-le-pow-right}
+use native.Mathlib.Nat.{mod-mod, mul-le-mul-right, pow-le-pow-right}
 use lib.IntN.{ℤ, pos, _+ℤ_, _*ℤ_}
-use lib.Count.{ones, onesIn}
-use Rattle.integers.specs.Ring.{read, ring}
+use Rattle.integers.specs.Ring.{read, ring, comb, _⊕_, _⊗_}
 use Rattle.integers.specs.Order.{pos-≤ℤ}
 use Rattle.integers.specs.RangeSum.{Σ<}
 use Rattle.integers.specs.HalfSign.{halfSign}
 use Rattle.integers.specs.Within.{Within, within-le}
 use Rattle.integers.specs.Units.{greatestDepth, entryLimit}
-use Rattle.haar.specs.Signs.{alternate, sign}
-use Rattle.haar.specs.Cells.{parent, childNumber}
+use Rattle.haar.specs.Signs.{sign}
+use Rattle.haar.specs.Cells.{children, parent, childNumber}
 use Rattle.haar.specs.Table.{Coefficients}
 use Rattle.haar.specs.Figures.{signedDetails, figure}
 use Rattle.haar.specs.Plane.{dimensions, hDetail, vDetail, dDetail, at, figureAt}
+use Rattle.haar.specs.Laws.Signs.{sign-step, sign-plain}
 use Rattle.haar.specs.Laws.Figures.{figure-root}
 use Rattle.haar.specs.Laws.FigureBounds.{Bounded, figure-within}
 
 pub figure-top : (t : Coefficients dimensions) (cx cy : ℕ) → figureAt t 0 cx cy ≡ t .root
 figure-top t cx cy = figure-root dimensions t (at cx cy)
 
--- child a + 2 b is on the right where a is 1, and below where b is 1
-signs : (w : ℕ → ℤ) (a b : ℕ) → a < 2 → b < 2
-    → signedDetails dimensions w (a + 2 * (b + 2 * 0)) ≡ halfSign a *ℤ w hDetail +ℤ halfSign b *ℤ w vDetail +ℤ halfSign a *ℤ halfSign b *ℤ w dDetail
-unfolding signedDetails Σ< sign alternate ones onesIn
-signs w zero zero h k = ring (w 1 ∷ w 2 ∷ w 3 ∷ []) (search read depth 40) tt
-signs w (suc zero) zero h k = ring (w 1 ∷ w 2 ∷ w 3 ∷ []) (search read depth 40) tt
-signs w zero (suc zero) h k = ring (w 1 ∷ w 2 ∷ w 3 ∷ []) (search read depth 40) tt
-signs w (suc zero) (suc zero) h k = ring (w 1 ∷ w 2 ∷ w 3 ∷ []) (search read depth 40) tt
-signs w (suc (suc a)) b h k = absurd (omega arith)
-signs w zero (suc (suc b)) h k = absurd (omega arith)
-signs w (suc zero) (suc (suc b)) h k = absurd (omega arith)
+-- with two directions, a sign is that of x and that of y: a child is on the right where c is odd, and below where c / 2 is
+plane-sign : (e c : ℕ) → e < children dimensions → sign e c ≡ halfSign (e % 2 * (c % 2)) *ℤ halfSign (e / 2 % 2 * (c / 2 % 2))
+plane-sign e c h =
+    let none : e / 2 / 2 ≡ 0 = omega arith in
+    let x = halfSign (e % 2 * (c % 2)) in
+    let y = halfSign (e / 2 % 2 * (c / 2 % 2)) in
+    sign-step e c
+    ∙ ap (λ z. x *ℤ z) (sign-step (e / 2) (c / 2) ∙ ap (λ z. y *ℤ z) (ap (λ k. sign k (c / 2 / 2)) none ∙ sign-plain (c / 2 / 2)))
+    ∙ ring (pos (e % 2) ∷ pos (c % 2) ∷ pos (e / 2 % 2) ∷ pos (c / 2 % 2) ∷ []) (search read depth 40) tt
+
+signs : (w : ℕ → ℤ) (c : ℕ)
+    → signedDetails dimensions w c
+    ≡ halfSign (c % 2) *ℤ w hDetail +ℤ halfSign (c / 2 % 2) *ℤ w vDetail +ℤ halfSign (c % 2) *ℤ halfSign (c / 2 % 2) *ℤ w dDetail
+unfolding signedDetails Σ<
+signs w c =
+    comb (sign hDetail c ∷ sign vDetail c ∷ sign dDetail c ∷ w hDetail ∷ w vDetail ∷ w dDetail ∷ pos (c % 2) ∷ pos (c / 2 % 2) ∷ [])
+    (w hDetail ⊗ plane-sign hDetail c (omega arith) ⊕ w vDetail ⊗ plane-sign vDetail c (omega arith) ⊕ w dDetail ⊗ plane-sign dDetail c (omega arith))
+    (search read depth 40) tt
 
 pub figure-quarter : (t : Coefficients dimensions) (j cx cy : ℕ)
     → figureAt t (suc j) cx cy
@@ -50,8 +57,13 @@ pub figure-quarter : (t : Coefficients dimensions) (j cx cy : ℕ)
     +ℤ halfSign (cx % 2) *ℤ halfSign (cy % 2) *ℤ t .detail j (at (cx / 2) (cy / 2)) dDetail)
 unfolding figure parent childNumber
 figure-quarter t j cx cy =
-    ap (λ x. figureAt t j (cx / 2) (cy / 2) +ℤ pos (4 ^ j) *ℤ x)
-    (signs (t .detail j (at (cx / 2) (cy / 2))) (cx % 2) (cy % 2) (omega arith) (omega arith))
+    let w = t .detail j (at (cx / 2) (cy / 2)) in
+    let c = childNumber dimensions (at cx cy) in
+    let x : c % 2 ≡ cx % 2 = omega arith in
+    let half : c / 2 ≡ cy % 2 = omega arith in
+    let y : c / 2 % 2 ≡ cy % 2 = ap (λ k. k % 2) half ∙ mod-mod cy 2 in
+    ap (λ z. figureAt t j (cx / 2) (cy / 2) +ℤ pos (4 ^ j) *ℤ z)
+    (signs w c ∙ ap₂ (λ a b. halfSign a *ℤ w hDetail +ℤ halfSign b *ℤ w vDetail +ℤ halfSign a *ℤ halfSign b *ℤ w dDetail) x y)
 
 -- 4^6 × 2^40
 pub figure-limit : {t : Coefficients dimensions} → Bounded dimensions entryLimit t → (level : ℕ) → level ≤ greatestDepth → (cx cy : ℕ)
