@@ -12,5 +12,3 @@ pub mod Refining
 pub mod Descent
 -- a picture, row by row
 pub mod PictureRows
--- the full figure as a power of two, and a grey as a quotient by it
-pub mod GreyNumbers

@@ -1,4 +1,22 @@
 // Figures and greys from a table of Haar coefficients.
+//
+// The tile is cut into quarters, each quarter into quarters, and so on: a quadtree, whose level j has 2^j by 2^j cells. The table has the area of the
+// whole tile, the root, and three details of each cell that is cut: h, left half less right half; v, upper half less lower half; d, upper left and lower
+// right quarters less the other two. A cell's figure is 4^j times its area, so that nothing is divided on the way down:
+//
+//       figure of a quarter = figure of the cell + 4^j × (± h ± v ± d)             + h | − h      + v      + d | − d
+//                                                                                      |         -----    -----+-----
+//       h is plus on the left, v above, d in the upper left and lower right            |          − v      − d | + d
+//
+// A picture is drawn row by row. The cells of one row lie, at each level above, in one row too, of half as many cells each time. So a row begins as the
+// root alone and is refined in place, level by level, into 2, 4, 8 .. figures. Along a row v keeps its sign, and two children that lie side by side
+// differ in the signs of h and d alone:
+//
+//       left, right  =  (f ± 4^j v)  plus and minus  (4^j h ± 4^j d)
+//
+// A row of level L takes 1 + 2 + 4 + .. + 2^(L−1) such pairs, so that a picture takes fewer pairs than it has cells. Greys need one row of figures, at
+// most 64, beside the picture. One cell alone takes a pair for each level. Figures of a table whose entries are within 2^40 are within 2^52, so no
+// number passes 64 bits.
 ghost use mathlib.Core.Path.{_≡_};
 ghost use Prim.Native.Nat.{suc, _+_, _*_, _/_, _%_, _^_, _<_, _≤_};
 ghost use lib.ListN.{length};
@@ -11,6 +29,8 @@ ghost use Rattle.haar.specs.Table.{place};
 ghost use Rattle.haar.specs.Greys.{greyOf};
 ghost use Rattle.haar.specs.Plane.{dimensions, hDetail, at, figureIn, pictureIn};
 ghost use Rattle.haar.specs.Code.{DrawableCell, Refinable, RefinableRow, HasRow, DrawableRow, DrawablePicture, Shaded, scaleLimit, PairRoom, pairOf, IsPair};
+
+pub mod grey;
 
 // Details to a cell: h, v and d.
 const DETAILS: usize = 3;
@@ -152,40 +172,13 @@ pub fn figures(table: &[i64], level: usize, picture: &mut [i64])
     }
 }
 
-// ---- greys
-
-// A pixel has 2^17 units, so a tile's full figure is a power of two too, and to divide by it is to shift.
-const PIXEL_BITS: usize = 17;
-
-// White is 0.
-const FULL_GREY: u8 = 255;
-
-// The grey of a figure on a tile of side 2^depth. It is held before it is rounded: the figure is compared with 0 and with the full figure first,
-// so that what is multiplied by 255 is below 2^29, whatever the figure.
-pub fn grey_of(figure: i64, depth: usize) -> u8
-    requires { ⌜ depth ≤ greatestDepth ⌝ }
-    ensures { λ r. ⌜ r ≡ greyOf (2 ^ depth) figure ⌝ }
-{
-    if figure <= 0 {
-        return 0;
-    }
-    let ink = figure as usize;
-    let bits = PIXEL_BITS + 2 * depth;
-    let full = 1usize << bits;
-    if full <= ink {
-        return FULL_GREY;
-    }
-    let half = full / 2;
-    ((FULL_GREY as usize * ink + half) >> bits) as u8
-}
-
 // The greys of the first n figures of a row.
 fn shade(figures: &[i64], n: usize, depth: usize, greys: &mut [u8])
     requires { ⌜ (n ≤ length (now figures)) × (n ≤ length (now greys)) × (n ≤ greatestSide) × (depth ≤ greatestDepth) ⌝ }
     ensures { λ _. ⌜ Shaded (greyOf (2 ^ depth)) n (now (figures .entry)) (now (greys .entry)) (now (greys .exit)) ⌝ }
 {
     for x in 0..n {
-        greys[x] = grey_of(figures[x], depth);
+        greys[x] = grey::grey_of(figures[x], depth);
     }
 }
 

@@ -16,7 +16,7 @@ use Rattle.haar.proofs.children_in_row.Statement.{statement}
 use Rattle.haar.proofs.children_in_row.Tie as tie
 
 first-detail-requires : tie.Need-first-detail-requires
-first-detail-requires c κs = let r = c .pre in (omega (arith, r .drawable .shallow), r .x-below, half-row r)
+first-detail-requires c κs = let r = c .pre in let x = r .x-below in let y = half-row r in (omega (arith, r .drawable .shallow), omega arith, omega arith)
 
 scale-of-requires : tie.Need-scale-of-requires
 scale-of-requires c κs = omega (arith, c .before .pre .drawable .shallow)

@@ -20,7 +20,7 @@ shade-requires c κs =
     let s = c .before .before .before .before .before .before .before in
     let e = c .before .cells-across .ensures in
     let f = few s in
-    (omega (arith, c .before .before .before .before .figure-row .ensures .same-length), omega (arith, s .pre .0 .enough), omega arith, s .pre .1)
+    (omega (arith, c .before .before .before .before .figure-row .ensures .same-length), omega (arith, s .pre .0 .enough), omega arith, omega (arith, s .pre .1, s .pre .0 .drawable .shallow))
 
 returns : tie.Need-returns
 returns c =

@@ -4,7 +4,7 @@
 --   Bounded n b t                no entry of the table is larger than b
 --   stored-bounded               the same of a list of entries, and so of the table that it holds
 --   figure-within                then no figure is larger than b times the number of cells of its level
-use mathlib.Core.Path.{_≡_, refl, sym, _∙_, ap}
+use mathlib.Core.Path.{_≡_, sym, _∙_, ap}
 use mathlib.Core.List.{List, [], _∷_}
 use Prim.Native.Nat.{ℕ, zero, suc, _*_, _^_}
 use native.Mathlib.Omega.{arith}
@@ -20,6 +20,7 @@ use Rattle.haar.specs.Cells.{children, details, Cell, parent, childNumbe
 use Rattle.haar.specs.Table.{Coefficients, place, stored}
 use Rattle.haar.specs.Figures.{signedDetails, figure}
 use Rattle.haar.specs.Laws.Signs.{sign-cases}
+use Rattle.haar.specs.Laws.Figures.{figure-root, figure-next}
 
 pub record Bounded (n b : ℕ) (t : Coefficients n) : Type 0 where
   pub root-within : Within (pos b) (t .root)
@@ -42,9 +43,9 @@ next n j b =
 
 pub figure-within : {n b : ℕ} {t : Coefficients n} → Bounded n b t → (level : ℕ) (cell : Cell n)
     → Within (pos (children n ^ level * b)) (figure n t level cell)
-unfolding figure
-figure-within {n} {b} h zero cell = within-is (ap pos (sym (ap (λ k. k * b) (pow-zero (children n)) ∙ one-mul b))) refl (h .root-within)
+figure-within {n} {b} {t} h zero cell =
+    within-is (ap pos (sym (ap (λ k. k * b) (pow-zero (children n)) ∙ one-mul b))) (sym (figure-root n t cell)) (h .root-within)
 figure-within {n} {b} {t} h (suc j) cell =
     let q = parent n cell in
     let w = signedDetails-within n (t .detail j q) (h .detail-within j q) (childNumber n cell) in
-    within-is (next n j b) refl (within-add (figure-within h j q) (within-scale (children n ^ j) w))
+    within-is (next n j b) (sym (figure-next n t j cell)) (within-add (figure-within h j q) (within-scale (children n ^ j) w))

@@ -4,7 +4,7 @@
 -- Main results
 --   combine a t b u              the table a t + b u, entry by entry
 --   figure-linear                its figures
-use mathlib.Core.Path.{_≡_, refl, _∙_, ap₂}
+use mathlib.Core.Path.{_≡_, sym, _∙_, ap₂}
 use mathlib.Core.List.{[], _∷_}
 use Prim.Native.Nat.{ℕ, zero, suc, _^_}
 use lib.IntN.{ℤ, pos, _+ℤ_, _*ℤ_}
@@ -14,6 +14,7 @@ use Rattle.haar.specs.Signs.{sign}
 use Rattle.haar.specs.Cells.{children, details, Cell, parent, childNumber}
 use Rattle.haar.specs.Table.{Coefficients}
 use Rattle.haar.specs.Figures.{signedDetails, figure}
+use Rattle.haar.specs.Laws.Figures.{figure-root, figure-next}
 
 abbrev pub combine : {n : ℕ} → ℤ → Coefficients n → ℤ → Coefficients n → Coefficients n
 combine a t b u = record {
@@ -40,14 +41,16 @@ signedDetails-linear n a v b w c =
 
 pub figure-linear : (n : ℕ) (a : ℤ) (t : Coefficients n) (b : ℤ) (u : Coefficients n) (level : ℕ) (cell : Cell n)
     → figure n (combine a t b u) level cell ≡ a *ℤ figure n t level cell +ℤ b *ℤ figure n u level cell
-unfolding figure
-figure-linear n a t b u zero cell = refl
+figure-linear n a t b u zero cell =
+    figure-root n (combine a t b u) cell ∙ sym (ap₂ (λ x y. a *ℤ x +ℤ b *ℤ y) (figure-root n t cell) (figure-root n u cell))
 figure-linear n a t b u (suc j) cell =
     let q = parent n cell in
     let c = childNumber n cell in
     let v = t .detail j q in
     let w = u .detail j q in
-    comb
+    figure-next n (combine a t b u) j cell
+    ∙ comb
     (a ∷ b ∷ pos (children n ^ j) ∷ figure n t j q ∷ figure n u j q ∷ figure n (combine a t b u) j q
     ∷ signedDetails n v c ∷ signedDetails n w c ∷ signedDetails n (λ e. a *ℤ v e +ℤ b *ℤ w e) c ∷ [])
     (figure-linear n a t b u j q ⊕ pos (children n ^ j) ⊗ signedDetails-linear n a v b w c) (search read depth 40) tt
+    ∙ sym (ap₂ (λ x y. a *ℤ x +ℤ b *ℤ y) (figure-next n t j cell) (figure-next n u j cell))

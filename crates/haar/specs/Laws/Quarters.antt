@@ -20,10 +20,10 @@ use Rattle.integers.specs.Units.{greatestDepth, entryLimit}
 use Rattle.haar.specs.Signs.{sign}
 use Rattle.haar.specs.Cells.{children, parent, childNumber}
 use Rattle.haar.specs.Table.{Coefficients}
-use Rattle.haar.specs.Figures.{signedDetails, figure}
+use Rattle.haar.specs.Figures.{signedDetails}
 use Rattle.haar.specs.Plane.{dimensions, hDetail, vDetail, dDetail, at, figureAt}
 use Rattle.haar.specs.Laws.Signs.{sign-step, sign-plain}
-use Rattle.haar.specs.Laws.Figures.{figure-root}
+use Rattle.haar.specs.Laws.Figures.{figure-root, figure-next}
 use Rattle.haar.specs.Laws.FigureBounds.{Bounded, figure-within}
 
 pub figure-top : (t : Coefficients dimensions) (cx cy : ℕ) → figureAt t 0 cx cy ≡ t .root
@@ -55,14 +55,15 @@ pub figure-quarter : (t : Coefficients dimensions) (j cx cy : ℕ)
     *ℤ (halfSign (cx % 2) *ℤ t .detail j (at (cx / 2) (cy / 2)) hDetail
     +ℤ halfSign (cy % 2) *ℤ t .detail j (at (cx / 2) (cy / 2)) vDetail
     +ℤ halfSign (cx % 2) *ℤ halfSign (cy % 2) *ℤ t .detail j (at (cx / 2) (cy / 2)) dDetail)
-unfolding figure parent childNumber
+unfolding parent childNumber
 figure-quarter t j cx cy =
     let w = t .detail j (at (cx / 2) (cy / 2)) in
     let c = childNumber dimensions (at cx cy) in
     let x : c % 2 ≡ cx % 2 = omega arith in
     let half : c / 2 ≡ cy % 2 = omega arith in
     let y : c / 2 % 2 ≡ cy % 2 = ap (λ k. k % 2) half ∙ mod-mod cy 2 in
-    ap (λ z. figureAt t j (cx / 2) (cy / 2) +ℤ pos (4 ^ j) *ℤ z)
+    figure-next dimensions t j (at cx cy)
+    ∙ ap (λ z. figureAt t j (cx / 2) (cy / 2) +ℤ pos (4 ^ j) *ℤ z)
     (signs w c ∙ ap₂ (λ a b. halfSign a *ℤ w hDetail +ℤ halfSign b *ℤ w vDetail +ℤ halfSign a *ℤ halfSign b *ℤ w dDetail) x y)
 
 -- 4^6 × 2^40

@@ -15,11 +15,11 @@ use Rattle.integers.specs.Machine.{tests}
 use Rattle.integers.specs.Bits.{back}
 use Rattle.haar.specs.Greys.{full}
 use Rattle.haar.specs.Laws.Greys.{grey-byte, grey-white, grey-full}
-use Rattle.haar.proofs.GreyNumbers.{full-shift, full-most, grey-quotient}
-use Rattle.haar.proofs.grey_of.Statement.{statement}
-use Rattle.haar.proofs.grey_of.Tie as tie
-use Rattle.haar.proofs.grey_of.Reads as reads
-use Rattle.haar.proofs.grey_of.Lts as lts
+use Rattle.haar.proofs.grey.Numbers.{full-shift, full-most, grey-quotient}
+use Rattle.haar.proofs.grey.grey_of.Statement.{statement}
+use Rattle.haar.proofs.grey.grey_of.Tie as tie
+use Rattle.haar.proofs.grey.grey_of.Reads as reads
+use Rattle.haar.proofs.grey.grey_of.Lts as lts
 
 zero-fits : SFits w64 (pos 0)
 zero-fits = sfits-lit tt

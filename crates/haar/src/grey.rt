@@ -1,0 +1,30 @@
+// The grey of a figure: 255 for the full figure, to the nearest whole number, halves up, and never below 0 or above 255.
+ghost use mathlib.Core.Path.{_≡_};
+ghost use Prim.Native.Nat.{_^_, _≤_};
+ghost use Rattle.integers.specs.Units.{greatestDepth};
+ghost use Rattle.haar.specs.Greys.{greyOf};
+
+// A pixel has 2^17 units, so a tile's full figure is a power of two too, and to divide by it is to shift.
+const PIXEL_BITS: usize = 17;
+
+// White is 0.
+const FULL_GREY: u8 = 255;
+
+// The grey of a figure on a tile of side 2^depth. It is held before it is rounded: the figure is compared with 0 and with the full figure first,
+// so that what is multiplied by 255 is below 2^29, whatever the figure.
+pub fn grey_of(figure: i64, depth: usize) -> u8
+    requires { ⌜ depth ≤ greatestDepth ⌝ }
+    ensures { λ r. ⌜ r ≡ greyOf (2 ^ depth) figure ⌝ }
+{
+    if figure <= 0 {
+        return 0;
+    }
+    let ink = figure as usize;
+    let bits = PIXEL_BITS + 2 * depth;
+    let full = 1usize << bits;
+    if full <= ink {
+        return FULL_GREY;
+    }
+    let half = full / 2;
+    ((FULL_GREY as usize * ink + half) >> bits) as u8
+}
