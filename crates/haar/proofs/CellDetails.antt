@@ -11,7 +11,7 @@ use Prim.Native.Nat.{ℕ, suc, _+_, _*_, _-_, _/_, _%_, _^_, _<_, _≤_}
 use native.Mathlib.Omega.{arith}
 use native.Mathlib.Nat.{pow-succ', pow-le-pow-right, mul-le-mul-right}
 use lib.ListN.{length, getD}
-use lib.IntN.{ℤ, pos, _+ℤ_, _*ℤ_}
+use lib.IntN.{ℤ, pos, _*ℤ_}
 use Rattle.integers.specs.Units.{greatestDepth, entryLimit}
 use Rattle.integers.specs.Ring.{read, ring}
 use Rattle.integers.specs.Order.{pos-≤ℤ, nonneg}
@@ -23,7 +23,7 @@ use Rattle.haar.specs.Plane.{dimensions, hDetail, vDetail, dDetail, at, 
 use Rattle.haar.specs.Code.{Refinable, scaleLimit, pairOf, IsPair}
 use Rattle.haar.specs.Laws.Layout.{place-plane, place-high}
 use Rattle.haar.specs.Laws.FigureBounds.{stored-bounded, figure-within}
-use Rattle.haar.specs.Laws.Quarters.{figure-quarter}
+use Rattle.haar.specs.Laws.Quarters.{quarterFigure, figure-quarter}
 
 -- the first of a cell's entries, with two more after it
 pub record CellDetails (entries : List ℤ) (first : ℕ) : Type 0 where
@@ -63,19 +63,11 @@ detail-is entries level x y k e g = ap (λ i. getD entries i (pos 0)) (omega (ar
 -- a child in half b of x
 child-in-half : (entries : List ℤ) (level x cy b : ℕ) → b < 2
     → figureIn entries (suc level) (2 * x + b) cy
-    ≡ figureIn entries level x (cy / 2)
-    +ℤ pos (children dimensions ^ level)
-    *ℤ (halfSign b *ℤ stored dimensions entries .detail level (at x (cy / 2)) hDetail
-    +ℤ halfSign (cy % 2) *ℤ stored dimensions entries .detail level (at x (cy / 2)) vDetail
-    +ℤ halfSign b *ℤ halfSign (cy % 2) *ℤ stored dimensions entries .detail level (at x (cy / 2)) dDetail)
+    ≡ quarterFigure (figureIn entries level x (cy / 2)) (children dimensions ^ level) (stored dimensions entries .detail level (at x (cy / 2))) b (cy % 2)
 child-in-half entries level x cy b g =
     let t = stored dimensions entries in
     figure-quarter t level (2 * x + b) cy
-    ∙ ap₂ (λ (u k : ℕ). figureAt t level u (cy / 2)
-    +ℤ pos (children dimensions ^ level)
-    *ℤ (halfSign k *ℤ t .detail level (at u (cy / 2)) hDetail
-    +ℤ halfSign (cy % 2) *ℤ t .detail level (at u (cy / 2)) vDetail
-    +ℤ halfSign k *ℤ halfSign (cy % 2) *ℤ t .detail level (at u (cy / 2)) dDetail))
+    ∙ ap₂ (λ (u k : ℕ). quarterFigure (figureAt t level u (cy / 2)) (children dimensions ^ level) (t .detail level (at u (cy / 2))) k (cy % 2))
     {x = (2 * x + b) / 2} {y = x} {u = (2 * x + b) % 2} {v = b} (omega arith) (omega arith)
 
 -- the two children: h turns from the left one to the right one, and d with it

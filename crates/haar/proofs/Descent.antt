@@ -15,7 +15,7 @@ use lib.Pow.{pow-pos, pow-mono, shr-lt, shr-shr}
 use lib.IntN.{ℤ, pos}
 use Rattle.haar.specs.Plane.{figureIn}
 use Rattle.haar.specs.Code.{Row, HasRow, DrawableRow, RefinableRow}
-use Rattle.haar.proofs.Drawable.{shallower}
+use Rattle.haar.proofs.Above.{shallower}
 
 module _ (entries : List ℤ) (level cy room : ℕ) where
   pub record Descent (row : List ℤ) (j : ℕ) : Type 0 where

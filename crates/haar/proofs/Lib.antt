@@ -5,7 +5,7 @@ pub mod LevelNumbers
 -- a cell's details, and the figures of two children
 pub mod CellDetails
 -- one level up
-pub mod Drawable
+pub mod Above
 -- a row of figures, from the row one level up
 pub mod Refining
 -- a row of figures, from the root down

@@ -19,7 +19,8 @@ use lib.IntN.{ℤ}
 use Rattle.integers.specs.Units.{greatestSide}
 use Rattle.haar.specs.Table.{stored}
 use Rattle.haar.specs.Plane.{dimensions, figureIn, pictureIn}
-use Rattle.haar.specs.Code.{HasRow, DrawableRow, DrawablePicture}
+use Rattle.haar.specs.Drawable.{DrawablePicture}
+use Rattle.haar.specs.Code.{HasRow, DrawableRow}
 use Rattle.haar.specs.Laws.Cells.{level-square}
 use Rattle.haar.specs.Laws.Pictures.{picture-of-entries}
 

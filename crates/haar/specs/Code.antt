@@ -1,10 +1,12 @@
--- What the code asks of a table, and what it has drawn on the way to a picture.
+-- What the contracts of the functions between a table and its pictures cite: two children that lie side by side, and rows.
 --
 -- Definitions
---   InRange entries                       question 9: every entry is from −2^40 to 2^40
---   Drawable entries level                a table from which a level can be drawn
---   Row g o t level cy l                  a list begins with g of the figures of row cy
---   Rows g o t level rows l               and with those of the first rows
+--   Refinable entries level x cy f            a cell whose children are wanted in row cy of the next level, and its figure
+--   scaleLimit, PairRoom                      the numbers that the two children are worked out from
+--   pairOf, IsPair                            the two children, by those numbers and by their figures
+--   Row, HasRow                               a list begins with what is made of a row's figures
+--   DrawableRow, RefinableRow                 what a row asks, from the root and from its parents
+--   Shaded g n figures before after           the first n are made of the figures
 use mathlib.Core.Path.{_≡_}
 use mathlib.Core.List.{List}
 use Prim.Native.Nat.{ℕ, suc, _+_, _*_, _-_, _/_, _^_, _<_, _≤_}
@@ -14,23 +16,10 @@ use Rattle.integers.specs.Units.{greatestDepth, entryLimit}
 use Rattle.integers.specs.Within.{Within}
 use Rattle.haar.specs.Cells.{children}
 use Rattle.haar.specs.Plane.{dimensions, figureIn}
+use Rattle.haar.specs.Drawable.{Drawable}
 use Rattle.haar.specs.declared.Pair.{Pair}
 
-pub record InRange (entries : List ℤ) : Type 0 where
-  pub each : (i : ℕ) → Within (pos entryLimit) (getD entries i (pos 0))
-
--- as deep as a tile can be, with entries for all levels above this one
-pub record Drawable (entries : List ℤ) (level : ℕ) : Type 0 where
-  pub shallow : level ≤ greatestDepth
-  pub long : children dimensions ^ level ≤ length entries
-  pub in-range : InRange entries
-
--- cell (cx, cy) of a level that can be drawn
-pub record DrawableCell (entries : List ℤ) (level cx cy : ℕ) : Type 0 where
-  pub drawable : Drawable entries level
-  pub x : cx < 2 ^ level
-  pub y : cy < 2 ^ level
-
+-- ---- two children that lie side by side
 -- cell (x, cy / 2), whose children are in row cy of the level below, and its figure
 pub record Refinable (entries : List ℤ) (level x cy : ℕ) (f : ℤ) : Type 0 where
   pub drawable : Drawable entries (suc level)
@@ -38,7 +27,6 @@ pub record Refinable (entries : List ℤ) (level x cy : ℕ) (f : ℤ) : Type 0 
   pub y-below : cy < 2 ^ suc level
   pub is-figure : f ≡ figureIn entries level x (cy / 2)
 
--- ---- two children that lie side by side
 -- the greatest scale of a cell that has children: 4^5
 abbrev pub scaleLimit : ℕ
 scaleLimit = children dimensions ^ (greatestDepth - 1)
@@ -82,10 +70,6 @@ pub record DrawableRow (entries : List ℤ) (level cy room : ℕ) : Type 0 where
 pub record RefinableRow (entries : List ℤ) (level cy : ℕ) (l : List ℤ) : Type 0 where
   pub drawable : DrawableRow entries (suc level) cy (length l)
   pub parents : Row (λ z. z) (pos 0) entries level (cy / 2) l
-
-pub record DrawablePicture (entries : List ℤ) (level room : ℕ) : Type 0 where
-  pub drawable : Drawable entries level
-  pub exact : room ≡ children dimensions ^ level
 
 -- the first n of `after` are g of the figures'
 pub record Shaded (g : ℤ → ℕ) (n : ℕ) (figures : List ℤ) (before after : List ℕ) : Type 0 where

@@ -11,7 +11,8 @@ pub mod Pictures
 pub mod Greys
 -- two dimensions
 pub mod Plane
--- what the code asks and leaves
+-- what drawing asks, and what its functions leave on the way
+pub mod Drawable
 pub mod Code
 -- laws
 pub mod Laws

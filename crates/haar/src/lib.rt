@@ -28,7 +28,8 @@ ghost use Rattle.haar.specs.Cells.{children};
 ghost use Rattle.haar.specs.Table.{place};
 ghost use Rattle.haar.specs.Greys.{greyOf};
 ghost use Rattle.haar.specs.Plane.{dimensions, hDetail, at, figureIn, pictureIn};
-ghost use Rattle.haar.specs.Code.{DrawableCell, Refinable, RefinableRow, HasRow, DrawableRow, DrawablePicture, Shaded, scaleLimit, PairRoom, pairOf, IsPair};
+ghost use Rattle.haar.specs.Drawable.{DrawableCell, DrawablePicture};
+ghost use Rattle.haar.specs.Code.{Refinable, RefinableRow, HasRow, DrawableRow, Shaded, scaleLimit, PairRoom, pairOf, IsPair};
 
 pub mod grey;
 

@@ -7,8 +7,8 @@ use borrow.Fn.Kinds.{In}
 use borrow.Fn.PlainCycle.{Measures, is, falls, and}
 use Rattle.integers.specs.Bits.{result-is}
 use Rattle.haar.specs.Plane.{figureIn}
-use Rattle.haar.specs.Code.{DrawableCell}
-use Rattle.haar.proofs.Drawable.{root-inside, root-is, cell-above, cell-refinable}
+use Rattle.haar.specs.Drawable.{DrawableCell}
+use Rattle.haar.proofs.Above.{root-inside, root-is, cell-above, cell-refinable}
 use Rattle.haar.proofs.figure_at.Reads as figure-at
 use Rattle.haar.proofs.figure_at.Kinds as figure-at-kinds
 use Rattle.haar.proofs.+figure_at.Lts-figure_at as figure-at-lts

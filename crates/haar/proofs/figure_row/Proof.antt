@@ -8,7 +8,7 @@ use lib.Pow.{pow-pos}
 use lib.IntN.{ℤ, pos}
 use Rattle.integers.specs.Bits.{back}
 use Rattle.haar.specs.Code.{DrawableRow}
-use Rattle.haar.proofs.Drawable.{root-inside, root-is}
+use Rattle.haar.proofs.Above.{root-inside, root-is}
 use Rattle.haar.proofs.Descent.{Descent, descent-start, descent-asks, descent-step, descent-end}
 use Rattle.haar.proofs.figure_row.Statement.{statement}
 use Rattle.haar.proofs.figure_row.Tie as tie

@@ -2,9 +2,10 @@
 use mathlib.Core.Path.{_∙_, subst⁻¹}
 use Prim.Native.Nat.{_*_, _-_, _≤_}
 use native.Mathlib.Omega.{arith}
-use lib.ListN.{length, length-set}
+use lib.ListN.{length}
+use lib.Seq.{lt-length-set}
 use Rattle.integers.specs.Units.{greatestSide}
-use Rattle.integers.specs.Bits.{back, back-is, field-is}
+use Rattle.integers.specs.Bits.{back-is, field-is}
 use Rattle.haar.specs.Code.{Refinable}
 use Rattle.haar.proofs.CellDetails.{parent-within}
 use Rattle.haar.proofs.Refining.{Refining, refining-room, refining-few, refining-start, refining-cell, refining-step, refining-end}
@@ -71,7 +72,7 @@ mul-right-2 c = record { fits = omega (arith, few (c .before .before .before .be
 slice-set-from-right : tie.Need-slice-set-from-right Inv-loop μ-loop
 slice-set-from-right c =
     let i = c .before .before .before .before in
-    omega (arith, inside i, i .loop-test .taken, length-set (i .before .loop .row) (2 * (i .before .loop .x - 1)) (back (c .before .before .children-in-row .result .left)))
+    lt-length-set (i .before .loop .row) (2 * (i .before .loop .x - 1)) _ (omega (arith, inside i, i .loop-test .taken))
 
 loop-less : tie.Need-loop-less Inv-loop μ-loop
 loop-less c = omega (arith, c .before .before .before .before .loop-test .taken)

@@ -3,7 +3,8 @@
 --
 -- Main results
 --   figure-top                   the whole tile's figure is the root
---   figure-quarter               a quarter's figure
+--   quarterFigure                a quarter's figure from its cell's
+--   figure-quarter               every figure but the root's is such
 --   figure-limit                 of a table whose entries are in range, no figure passes 2^52
 use mathlib.Core.Path.{_≡_, _∙_, ap, ap₂}
 use mathlib.Core.List.{[], _∷_}
@@ -48,13 +49,12 @@ signs w c =
     (w hDetail ⊗ plane-sign hDetail c (omega arith) ⊕ w vDetail ⊗ plane-sign vDetail c (omega arith) ⊕ w dDetail ⊗ plane-sign dDetail c (omega arith))
     (search read depth 40) tt
 
+-- a quarter's figure from its cell's figure f, the scale 4^j and the cell's details w: in half a of x and half b of y
+abbrev pub quarterFigure : ℤ → ℕ → (ℕ → ℤ) → ℕ → ℕ → ℤ
+quarterFigure f scale w a b = f +ℤ pos scale *ℤ (halfSign a *ℤ w hDetail +ℤ halfSign b *ℤ w vDetail +ℤ halfSign a *ℤ halfSign b *ℤ w dDetail)
+
 pub figure-quarter : (t : Coefficients dimensions) (j cx cy : ℕ)
-    → figureAt t (suc j) cx cy
-    ≡ figureAt t j (cx / 2) (cy / 2)
-    +ℤ pos (4 ^ j)
-    *ℤ (halfSign (cx % 2) *ℤ t .detail j (at (cx / 2) (cy / 2)) hDetail
-    +ℤ halfSign (cy % 2) *ℤ t .detail j (at (cx / 2) (cy / 2)) vDetail
-    +ℤ halfSign (cx % 2) *ℤ halfSign (cy % 2) *ℤ t .detail j (at (cx / 2) (cy / 2)) dDetail)
+    → figureAt t (suc j) cx cy ≡ quarterFigure (figureAt t j (cx / 2) (cy / 2)) (4 ^ j) (t .detail j (at (cx / 2) (cy / 2))) (cx % 2) (cy % 2)
 unfolding parent childNumber
 figure-quarter t j cx cy =
     let w = t .detail j (at (cx / 2) (cy / 2)) in

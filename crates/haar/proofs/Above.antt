@@ -16,7 +16,8 @@ use Rattle.integers.specs.Bits.{back, back-is}
 use Rattle.haar.specs.Cells.{children}
 use Rattle.haar.specs.Table.{stored}
 use Rattle.haar.specs.Plane.{dimensions, figureIn}
-use Rattle.haar.specs.Code.{Drawable, DrawableCell, Refinable}
+use Rattle.haar.specs.Drawable.{Drawable, DrawableCell}
+use Rattle.haar.specs.Code.{Refinable}
 use Rattle.haar.specs.Laws.Quarters.{figure-top}
 
 pub root-inside : {entries : List ℤ} {level : ℕ} → Drawable entries level → 0 < length entries
