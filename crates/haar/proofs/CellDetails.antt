@@ -22,8 +22,7 @@ use Rattle.haar.specs.Table.{place, stored}
 use Rattle.haar.specs.Plane.{dimensions, hDetail, vDetail, dDetail, at, figureAt, figureIn}
 use Rattle.haar.specs.Code.{Refinable, scaleLimit, pairOf, IsPair}
 use Rattle.haar.specs.Laws.Layout.{place-plane, place-high}
-use Rattle.haar.specs.Laws.FigureBounds.{stored-bounded, figure-within}
-use Rattle.haar.specs.Laws.Quarters.{quarterFigure, figure-quarter}
+use Rattle.haar.specs.Laws.Quarters.{quarterFigure, figure-quarter, figure-in-range}
 
 -- the first of a cell's entries, with two more after it
 pub record CellDetails (entries : List ℤ) (first : ℕ) : Type 0 where
@@ -50,7 +49,7 @@ module _ {entries : List ℤ} {level x cy : ℕ} {f : ℤ} (r : Refinable entrie
   parent-within =
       within-is refl (sym (r .is-figure))
       (within-le (pos-≤ℤ (mul-le-mul-right entryLimit scale-few))
-      (figure-within (stored-bounded dimensions entryLimit entries (r .drawable .in-range .each)) level (at x (cy / 2))))
+      (figure-in-range (r .drawable .in-range) level x (cy / 2) (r .x-below) half-row))
 
   pub scale-within : {scale : ℤ} → scale ≡ pos (children dimensions ^ level) → Within (pos scaleLimit) scale
   scale-within e = within-is refl (sym e) (within-le (pos-≤ℤ scale-few) (within-self (nonneg _)))

@@ -5,10 +5,13 @@ pub mod Cells
 pub mod Layout
 -- the signs: one row for each detail, orthogonal
 pub mod Signs
--- figures: of a child, bounds, sums of tables
+-- figures: of a child, of areas, bounds, sums of tables
 pub mod Figures
+pub mod Areas
 pub mod FigureBounds
 pub mod FigureLinear
+-- a table is known by its coefficients
+pub mod Stored
 -- 01's own formula, in two dimensions
 pub mod Quarters
 -- pictures

@@ -87,7 +87,7 @@ unfolding Σ<
 Σ-swap zero n f = sym (Σ-const n (pos 0) ∙ *ℤ-zero (pos n))
 Σ-swap (suc m) n f = ap (λ z. z +ℤ Σ< n (f m)) (Σ-swap m n f) ∙ sym (Σ-add n (λ t. Σ< m (λ s. f s t)) (f m))
 
-pub Σ-within : {b : ℤ} (n : ℕ) (f : ℕ → ℤ) → ((k : ℕ) → Within b (f k)) → Within (pos n *ℤ b) (Σ< n f)
+pub Σ-within : {b : ℤ} (n : ℕ) (f : ℕ → ℤ) → ((k : ℕ) → k < n → Within b (f k)) → Within (pos n *ℤ b) (Σ< n f)
 unfolding Σ<
 Σ-within {b} zero f h = within-is (ring (b ∷ []) (search read depth 40) tt) refl (within-self (≤ℤ-refl (pos 0)))
-Σ-within {b} (suc n) f h = within-is (ring (b ∷ pos n ∷ []) (search read depth 40) tt) refl (within-add (Σ-within n f h) (h n))
+Σ-within {b} (suc n) f h = within-is (ring (b ∷ pos n ∷ []) (search read depth 40) tt) refl (within-add (Σ-within n f (λ k i. h k (omega arith))) (h n (omega arith)))

@@ -6,7 +6,7 @@
 --   greatestDepth, greatestSide, greatestCoordinate                 the tile
 --   fewestPoints, mostPoints, mostEdges                             the outline
 --   widthTimesExtentLimit, numeratorLimit                           an edge's arithmetic
---   entryLimit, fullGrey, textLimit                                 the table, the greys, the program
+--   entryLimit, figureLimit, fullGrey, textLimit                    the table, what is drawn of it, the program
 use mathlib.Core.Path.{_≡_, refl}
 use Prim.Native.Nat.{ℕ, _*_, _^_}
 
@@ -71,6 +71,13 @@ numerator-is = refl
 -- ---- the table: "Is every entry of the table from −2^40 to 2^40?" A built table stays within 2^38, and figures of a table in this range within 2^52.
 abbrev pub entryLimit : ℕ
 entryLimit = 2 ^ 40
+
+-- A figure is at most as many entries as its level has cells.
+abbrev pub figureLimit : ℕ
+figureLimit = greatestSide * greatestSide * entryLimit
+
+figure-limit-is : figureLimit ≡ 2 ^ 52
+figure-limit-is = refl
 
 -- ---- greys: "held between 0 and 255", white and full ink, so that one fits a byte
 abbrev pub fullGrey : ℕ

@@ -6,11 +6,13 @@
 --   rowMajor-lt, below-cellAt                            places and cells of a level
 --   cellAt-rowMajor, rowMajor-cellAt                     each cell has one place, and each place one cell
 --   level-cells, level-square                            a level has as many cells as it has in each direction, to the power n
+--   next-level                                           and the next has as many more as these have details
 use mathlib.Core.Path.{_≡_, refl, sym, _∙_, ap, ap₂}
 use Prim.Native.Nat.{ℕ, zero, suc, _+_, _*_, _/_, _%_, _^_, _<_}
 use native.Mathlib.Omega.{arith}
 use native.Mathlib.Nat.{pow-succ', mul-add-div-right, mul-add-mod-self-right, div-eq-of-lt, mod-eq-of-lt, mod-lt, add-zero, div-add-mod', div-lt-iff-lt-mul, mul-le-mul-right, pow-suc, pow-zero, mul-mul-mul-comm}
-use Rattle.haar.specs.Cells.{children, Cell, Below, rowMajor, cellAt, parent, childNumber, child}
+use lib.Pow.{suc-ones}
+use Rattle.haar.specs.Cells.{children, details, Cell, Below, rowMajor, cellAt, parent, childNumber, child}
 
 -- a cell from its first number and the rest
 pair : {A : Type 0} {x y : ℕ} {r s : A} → x ≡ y → r ≡ s → _≡_ {A = ℕ × A} (x, r) (y, s)
@@ -91,3 +93,7 @@ level-cells (suc n) j = pow-suc (2 ^ j) n ∙ ap (λ x. x * 2 ^ j) (level-cells 
 
 pub level-square : (j : ℕ) → 2 ^ j * 2 ^ j ≡ children 2 ^ j
 level-square j = sym (mul-pow 2 2 j)
+
+-- a level and the details of its cells are as many as the cells of the next
+pub next-level : (n j : ℕ) → children n ^ suc j ≡ children n ^ j + details n * children n ^ j
+next-level n j = pow-succ' (children n) j ∙ ap (λ c. c * children n ^ j) (sym (suc-ones n)) ∙ omega arith

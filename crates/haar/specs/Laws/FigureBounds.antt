@@ -1,51 +1,62 @@
--- How large a figure is: at most the table's largest entry, times the number of cells of the figure's level.
+-- How large a figure is: it is a sum over the levels above it, and so is its bound. Bounds of differences of tables are bounds of their figures' differences.
 --
 -- Main results
---   Bounded n b t                no entry of the table is larger than b
---   stored-bounded               the same of a list of entries, and so of the table that it holds
---   figure-within                then no figure is larger than b times the number of cells of its level
-use mathlib.Core.Path.{_≡_, sym, _∙_, ap}
+--   bound n r b level cell       what bounds a figure, where r bounds the root and b the details of each cell in which it lies
+--   Bounded n depth r b t        they do, down to the depth
+--   figure-within                and so the figure is within its bound
+--   bound-const                  where b is k throughout: B^level k, but for the root's k − r
+--   stored-bounded               a list of entries within k is such a table
+use mathlib.Core.Path.{_≡_, refl, sym, ap, subst}
 use mathlib.Core.List.{List, [], _∷_}
-use Prim.Native.Nat.{ℕ, zero, suc, _*_, _^_}
+use Prim.Native.Nat.{ℕ, zero, suc, _+_, _*_, _^_, _<_, _≤_}
 use native.Mathlib.Omega.{arith}
-use native.Mathlib.Nat.{one-mul, pow-suc, pow-zero}
-use lib.Pow.{pow-pos}
+use native.Mathlib.Nat.{pow-succ', pow-zero}
 use lib.ListN.{getD}
-use lib.IntN.{ℤ, pos, negℤ, _+ℤ_, _*ℤ_}
-use Rattle.integers.specs.Ring.{read, comb, _⊕_, _⊗_}
+use lib.IntN.{ℤ, pos, _*ℤ_}
+use Rattle.integers.specs.Ring.{read, ring}
 use Rattle.integers.specs.RangeSum.{Σ-within}
 use Rattle.integers.specs.Within.{Within, within-is, within-add, within-scale, within-sign}
 use Rattle.haar.specs.Signs.{sign}
-use Rattle.haar.specs.Cells.{children, details, Cell, parent, childNumber}
+use Rattle.haar.specs.Cells.{children, details, Cell, Below, parent, childNumber}
 use Rattle.haar.specs.Table.{Coefficients, place, stored}
 use Rattle.haar.specs.Figures.{signedDetails, figure}
+use Rattle.haar.specs.Laws.Cells.{below-parent, next-level}
 use Rattle.haar.specs.Laws.Signs.{sign-cases}
 use Rattle.haar.specs.Laws.Figures.{figure-root, figure-next}
 
-pub record Bounded (n b : ℕ) (t : Coefficients n) : Type 0 where
-  pub root-within : Within (pos b) (t .root)
-  pub detail-within : (j : ℕ) (cell : Cell n) (e : ℕ) → Within (pos b) (t .detail j cell e)
+-- B^j times the bound of each of a cell's details, for every level above
+unfoldable pub bound : (n r : ℕ) → (ℕ → Cell n → ℕ) → ℕ → Cell n → ℕ
+bound n r b zero cell = r
+bound n r b (suc j) cell = bound n r b j (parent n cell) + children n ^ j * (details n * b j (parent n cell))
 
-pub stored-bounded : (n b : ℕ) (entries : List ℤ) → ((i : ℕ) → Within (pos b) (getD entries i (pos 0))) → Bounded n b (stored n entries)
-stored-bounded n b entries h = record { root-within = h 0; detail-within = λ j cell e. h (place n j cell e) }
+pub record Bounded (n depth r : ℕ) (b : ℕ → Cell n → ℕ) (t : Coefficients n) : Type 0 where
+  pub root-within : Within (pos r) (t .root)
+  pub detail-within : (j : ℕ) → j < depth → (cell : Cell n) → Below n (2 ^ j) cell → (e : ℕ) → 1 ≤ e → e ≤ details n
+      → Within (pos (b j cell)) (t .detail j cell e)
 
--- ---- one cell's details
-signedDetails-within : {b : ℤ} (n : ℕ) (w : ℕ → ℤ) → ((e : ℕ) → Within b (w e)) → (c : ℕ) → Within (pos (details n) *ℤ b) (signedDetails n w c)
+signedDetails-within : {b : ℤ} (n : ℕ) (w : ℕ → ℤ) → ((e : ℕ) → 1 ≤ e → e ≤ details n → Within b (w e)) → (c : ℕ)
+    → Within (pos (details n) *ℤ b) (signedDetails n w c)
 unfolding signedDetails
-signedDetails-within n w h c = Σ-within (details n) (λ k. sign (suc k) c *ℤ w (suc k)) (λ k. within-sign (sign-cases (suc k) c) (h (suc k)))
+signedDetails-within n w h c =
+    Σ-within (details n) (λ k. sign (suc k) c *ℤ w (suc k)) (λ k i. within-sign (sign-cases (suc k) c) (h (suc k) (omega arith) i))
 
--- ---- figures: of B children a cell has B − 1 details, and B^j b + B^j (B − 1) b is B^(j + 1) b
-next : (n j b : ℕ) → pos (children n ^ j * b) +ℤ pos (children n ^ j) *ℤ (pos (details n) *ℤ pos b) ≡ pos (children n ^ suc j * b)
-next n j b =
-    let e : children n ≡ suc (details n) = omega (arith, pow-pos n) in
-    comb (pos (children n ^ j) ∷ pos (children n ^ suc j) ∷ pos (children n) ∷ pos (details n) ∷ pos b ∷ [])
-    (negℤ (pos b) ⊗ ap pos (pow-suc (children n) j) ⊕ negℤ (pos (children n ^ j) *ℤ pos b) ⊗ ap pos e) (search read depth 40) tt
-
-pub figure-within : {n b : ℕ} {t : Coefficients n} → Bounded n b t → (level : ℕ) (cell : Cell n)
-    → Within (pos (children n ^ level * b)) (figure n t level cell)
-figure-within {n} {b} {t} h zero cell =
-    within-is (ap pos (sym (ap (λ k. k * b) (pow-zero (children n)) ∙ one-mul b))) (sym (figure-root n t cell)) (h .root-within)
-figure-within {n} {b} {t} h (suc j) cell =
+pub figure-within : {n depth r : ℕ} {b : ℕ → Cell n → ℕ} {t : Coefficients n} → Bounded n depth r b t → (level : ℕ) → level ≤ depth
+    → (cell : Cell n) → Below n (2 ^ level) cell → Within (pos (bound n r b level cell)) (figure n t level cell)
+unfolding bound
+figure-within {n} {t = t} h zero i cell k = within-is refl (sym (figure-root n t cell)) (h .root-within)
+figure-within {n} {depth} {r} {b} {t} h (suc j) i cell k =
     let q = parent n cell in
-    let w = signedDetails-within n (t .detail j q) (h .detail-within j q) (childNumber n cell) in
-    within-is (next n j b) (sym (figure-next n t j cell)) (within-add (figure-within h j q) (within-scale (children n ^ j) w))
+    let p = below-parent n (2 ^ j) cell (subst (λ m. Below n m cell) (pow-succ' 2 j) k) in
+    let w = signedDetails-within n (t .detail j q) (h .detail-within j i q p) (childNumber n cell) in
+    within-is (ring (pos (bound n r b j q) ∷ pos (children n ^ j) ∷ pos (details n) ∷ pos (b j q) ∷ []) (search read depth 40) tt)
+    (sym (figure-next n t j cell)) (within-add (figure-within h j (omega arith) q p) (within-scale (children n ^ j) w))
+
+-- of B children a cell has B − 1 details, so a level adds B^j (B − 1) k = B^(j + 1) k − B^j k
+pub bound-const : (n r k level : ℕ) (cell : Cell n) → bound n r (λ j cell. k) level cell + k ≡ children n ^ level * k + r
+unfolding bound
+bound-const n r k zero cell = omega (arith, ap (λ m. m * k) (pow-zero (children n)))
+bound-const n r k (suc j) cell = omega (arith, bound-const n r k j (parent n cell), ap (λ m. m * k) (next-level n j))
+
+pub stored-bounded : (n depth k : ℕ) (entries : List ℤ) → ((i : ℕ) → Within (pos k) (getD entries i (pos 0)))
+    → Bounded n depth k (λ j cell. k) (stored n entries)
+stored-bounded n depth k entries h = record { root-within = h 0; detail-within = λ j i cell b e f g. h (place n j cell e) }

@@ -11,13 +11,13 @@ use mathlib.Core.Path.{_≡_, sym, _∙_, ap, ap₂}
 use Prim.Native.Nat.{ℕ, zero, suc, _+_, _*_, _-_, _/_, _%_, _^_, _<_, _≤_}
 use native.Mathlib.Omega.{arith}
 use native.Mathlib.Decide.{decLt}
-use native.Mathlib.Nat.{pow-zero, pow-succ', one-le-pow, pow-le-pow-right, mul-le-mul-right, mod-lt, div-add-mod, div-lt-iff-lt-mul, lt-of-not-le}
+use native.Mathlib.Nat.{pow-zero, one-le-pow, pow-le-pow-right, mul-le-mul-right, mod-lt, div-add-mod, div-lt-iff-lt-mul, lt-of-not-le}
 use lib.Arith.{digits-lt, digits-div, digits-mod}
-use lib.Pow.{pow-pos, suc-ones}
+use lib.Pow.{pow-pos}
 use Rattle.haar.specs.Cells.{children, details, Cell, Below, rowMajor, cellAt}
 use Rattle.haar.specs.Table.{place}
 use Rattle.haar.specs.Plane.{dimensions, at}
-use Rattle.haar.specs.Laws.Cells.{rowMajor-lt, cellAt-rowMajor, below-cellAt, rowMajor-cellAt, level-cells}
+use Rattle.haar.specs.Laws.Cells.{rowMajor-lt, cellAt-rowMajor, below-cellAt, rowMajor-cellAt, level-cells, next-level}
 
 pub record IsDetail (n j : ℕ) (cell : Cell n) (e : ℕ) : Type 0 where
   pub inside : Below n (2 ^ j) cell
@@ -31,10 +31,6 @@ place-low n j cell e = omega arith
 
 pub place-pos : (n j : ℕ) (cell : Cell n) (e : ℕ) → 1 ≤ place n j cell e
 place-pos n j cell e = omega (arith, one-le-pow j (children n) (pow-pos n), place-low n j cell e)
-
--- the next level begins after the details of all cells of this one
-next-level : (n j : ℕ) → children n ^ suc j ≡ children n ^ j + details n * children n ^ j
-next-level n j = pow-succ' (children n) j ∙ ap (λ c. c * children n ^ j) (sym (suc-ones n)) ∙ omega arith
 
 pub place-high : {n j : ℕ} {cell : Cell n} {e : ℕ} → IsDetail n j cell e → place n j cell e < children n ^ suc j
 unfolding place
