@@ -6,6 +6,8 @@ pub mod LevelNumbers
 pub mod CellDetails
 -- one level up
 pub mod Above
+-- a list with its first entries replaced
+pub mod Overwrite
 -- a row of figures, from the row one level up
 pub mod Refining
 -- a row of figures, from the root down

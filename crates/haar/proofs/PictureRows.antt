@@ -20,9 +20,10 @@ use Rattle.integers.specs.Units.{greatestSide}
 use Rattle.haar.specs.Table.{stored}
 use Rattle.haar.specs.Plane.{dimensions, figureIn, pictureIn}
 use Rattle.haar.specs.Drawable.{DrawablePicture}
-use Rattle.haar.specs.Code.{HasRow, DrawableRow}
+use Rattle.haar.specs.Code.{rowOver, DrawableRow}
 use Rattle.haar.specs.Laws.Cells.{level-square}
 use Rattle.haar.specs.Laws.Pictures.{picture-of-entries}
+use Rattle.haar.proofs.Overwrite.{overwrite-length, overwrite-entry}
 
 module _ {A : Type 0} (g : ℤ → A) (o : A) (entries : List ℤ) (level room n : ℕ) where
   pub record PictureRows (l : List A) (rows : ℕ) : Type 0 where
@@ -57,10 +58,10 @@ module _ {entries : List ℤ} {level room n : ℕ} (d : DrawablePicture entries 
     }
 
     pub rows-step : {l part : List A} {y : ℕ} → PictureRows g o entries level room n l y → y < n
-        → HasRow g o entries level y (take (length l - y * n) (drop (y * n) l)) part
+        → part ≡ rowOver g entries level y (take (length l - y * n) (drop (y * n) l))
         → PictureRows g o entries level room n (putMid (y * n) (length l - y * n) l part) (y + 1)
     rows-step {l} {part} {y} r h w = record {
-      same-length = same-len-mid a (length l - a) l part (w .same-length) ∙ r .same-length;
+      same-length = same-len-mid a (length l - a) l part part-same ∙ r .same-length;
       entry = λ x i p q. elim (decLt i y) [ yes k ↦ earlier x i p k | no k ↦ (let z : y ≡ i = omega arith in subst (λ i. getD drawn (i * n + x) o ≡ g (figureIn entries level x i)) z (this x p)) ];
     }
       where
@@ -69,6 +70,15 @@ module _ {entries : List ℤ} {level room n : ℕ} (d : DrawablePicture entries 
 
         drawn : List A
         drawn = putMid a (length l - a) l part
+
+        lent : List A
+        lent = take (length l - y * n) (drop (y * n) l)
+
+        lent-enough : 2 ^ level ≤ length lent
+        lent-enough = omega (arith, part-length l (r .same-length) h, row-place h .inside)
+
+        part-same : length part ≡ length lent
+        part-same = ap length w ∙ overwrite-length (2 ^ level) (λ x. g (figureIn entries level x y)) lent lent-enough
 
         head : length (take a l) ≡ a
         head = length-take-le a l (omega (arith, row-place h .inside, r .same-length))
@@ -81,8 +91,8 @@ module _ {entries : List ℤ} {level room n : ℕ} (d : DrawablePicture entries 
         this : (x : ℕ) → x < n → getD drawn (a + x) o ≡ g (figureIn entries level x y)
         this x p =
             ap (λ k. getD drawn (k + x) o) (sym head) ∙ getD-append-add (take a l) (part ++ postOf a (length l - a) l) x o
-            ∙ List·getD-append part (postOf a (length l - a) l) o x (omega (arith, w .same-length, part-length l (r .same-length) h, row-place h .inside))
-            ∙ w .row .entry x (omega arith)
+            ∙ List·getD-append part (postOf a (length l - a) l) o x (omega (arith, part-same, lent-enough))
+            ∙ ap (λ k. getD k x o) w ∙ overwrite-entry o (2 ^ level) (λ x. g (figureIn entries level x y)) lent x (omega arith)
 
     pub rows-start : {l : List A} → length l ≡ room → PictureRows g o entries level room n l 0
     rows-start q = record { same-length = q; entry = λ x y h k. absurd (omega arith) }

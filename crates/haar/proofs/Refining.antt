@@ -18,7 +18,8 @@ use lib.Pow.{pow-mono}
 use lib.IntN.{ℤ, pos}
 use Rattle.integers.specs.Units.{greatestSide}
 use Rattle.haar.specs.Plane.{figureIn}
-use Rattle.haar.specs.Code.{HasRow, RefinableRow, Refinable}
+use Rattle.haar.specs.Code.{rowOver, RefinableRow, Refinable}
+use Rattle.haar.proofs.Overwrite.{overwrite-unique}
 
 module _ (entries : List ℤ) (level cy : ℕ) (before : List ℤ) where
   pub record Refining (row : List ℤ) (x : ℕ) : Type 0 where
@@ -26,6 +27,7 @@ module _ (entries : List ℤ) (level cy : ℕ) (before : List ℤ) where
     pub same-length : length row ≡ length before
     pub parents : (i : ℕ) → i < x → getD row i (pos 0) ≡ figureIn entries level i (cy / 2)
     pub children : (i : ℕ) → 2 * x ≤ i → i < 2 ^ suc level → getD row i (pos 0) ≡ figureIn entries (suc level) i cy
+    pub rest : (i : ℕ) → 2 ^ suc level ≤ i → getD row i (pos 0) ≡ getD before i (pos 0)
 
 module _ {entries : List ℤ} {level cy : ℕ} {before : List ℤ} (r : RefinableRow entries level cy before) where
   pub refining-start : {x : ℕ} → x ≡ 2 ^ level → Refining entries level cy before before x
@@ -34,6 +36,7 @@ module _ {entries : List ℤ} {level cy : ℕ} {before : List ℤ} (r : Refinabl
     same-length = refl;
     parents = λ i h. r .parents .entry i (omega arith);
     children = λ i h k. absurd (omega (arith, pow-succ' 2 level));
+    rest = λ i h. refl;
   }
 
   -- two places for each parent that is left
@@ -60,6 +63,7 @@ module _ {entries : List ℤ} {level cy : ℕ} {before : List ℤ} (r : Refinabl
     same-length = length-set (set row a left) (a + 1) right ∙ length-set row a left ∙ g .same-length;
     parents = λ i k. elsewhere i (omega arith) (omega arith) ∙ g .parents i (omega arith);
     children = λ i k l. child i k l;
+    rest = λ i k. elsewhere i (omega (arith, g .few, pow-succ' 2 level)) (omega (arith, g .few, pow-succ' 2 level)) ∙ g .rest i k;
   }
     where
       a : ℕ
@@ -85,5 +89,7 @@ module _ {entries : List ℤ} {level cy : ℕ} {before : List ℤ} (r : Refinabl
                 ]
           ]
 
-  pub refining-end : {row : List ℤ} {x : ℕ} → x ≡ 0 → Refining entries level cy before row x → HasRow (λ z. z) (pos 0) entries (suc level) cy before row
-  refining-end e g = record { row = record { entry = λ x h. g .children x (omega arith) h }; same-length = g .same-length }
+  pub refining-end : {row : List ℤ} {x : ℕ} → x ≡ 0 → Refining entries level cy before row x → row ≡ rowOver (λ z. z) entries (suc level) cy before
+  refining-end {row} e g =
+      overwrite-unique (pos 0) (2 ^ suc level) (λ x. figureIn entries (suc level) x cy) before row (r .drawable .enough) (g .same-length)
+      (λ i h. g .children i (omega arith) h) (g .rest)

@@ -3,14 +3,14 @@
 -- Definitions
 --   children n, details n        how many children and how many details a cell has
 --   Cell n                       a cell of a level, by its number in each direction, x first
---   Below m cell                 it is one of the m in each direction
+--   Below n m cell               it is one of the m in each direction
 --   rowMajor n m cell            its place among them, row by row
 --   cellAt n m i                 the cell at place i
 --   parent, childNumber          the cell that a cell lies in, and which of its children it is
 --   child n cell c               child c of a cell
 use Prim.Native.Nat.{ℕ, zero, suc, _+_, _*_, _-_, _/_, _%_, _^_, _<_}
 
--- A child for each choice of a half in each direction, and a detail for each choice of directions but none.
+-- A child for each choice of a half in each direction, and a detail for each set of directions but the empty one.
 abbrev pub children : ℕ → ℕ
 children n = 2 ^ n
 

@@ -2,25 +2,26 @@
 --
 -- Definitions
 --   Refinable entries level x cy f            a cell whose children are wanted in row cy of the next level, and its figure
---   scaleLimit, PairRoom                      the numbers that the two children are worked out from
+--   scaleLimit, PairBounds                    how large the numbers are that the two children are worked out from
 --   pairOf, IsPair                            the two children, by those numbers and by their figures
---   Row, HasRow                               a list begins with what is made of a row's figures
+--   overwrite m f l                           a list with its first m entries replaced
+--   Row, rowOver                              a list begins with what is made of a row's figures; a row drawn over a list's start
 --   DrawableRow, RefinableRow                 what a row asks, from the root and from its parents
---   Shaded g n figures before after           the first n are made of the figures
 use mathlib.Core.Path.{_≡_}
-use mathlib.Core.List.{List}
+use mathlib.Core.List.{List, _++_}
 use Prim.Native.Nat.{ℕ, suc, _+_, _*_, _-_, _/_, _^_, _<_, _≤_}
-use lib.ListN.{length, getD}
+use lib.ListN.{length, getD, drop}
 use lib.IntN.{ℤ, pos, _+ℤ_, _-ℤ_, _*ℤ_}
 use Rattle.integers.specs.Units.{greatestDepth, entryLimit}
 use Rattle.integers.specs.Within.{Within}
 use Rattle.haar.specs.Cells.{children}
+use Rattle.haar.specs.Pictures.{tabulate}
 use Rattle.haar.specs.Plane.{dimensions, figureIn}
 use Rattle.haar.specs.Drawable.{Drawable}
 use Rattle.haar.specs.declared.Pair.{Pair}
 
 -- ---- two children that lie side by side
--- cell (x, cy / 2), whose children are in row cy of the level below, and its figure
+-- cell (x, cy / 2), two of whose children are in row cy of the next level, and its figure
 pub record Refinable (entries : List ℤ) (level x cy : ℕ) (f : ℤ) : Type 0 where
   pub drawable : Drawable entries (suc level)
   pub x-below : x < 2 ^ level
@@ -32,7 +33,7 @@ abbrev pub scaleLimit : ℕ
 scaleLimit = children dimensions ^ (greatestDepth - 1)
 
 -- a cell's figure, its level's scale, the same with v's sign, and its details
-pub record PairRoom (f scale turned h v d : ℤ) : Type 0 where
+pub record PairBounds (f scale turned h v d : ℤ) : Type 0 where
   pub figure-within : Within (pos (scaleLimit * entryLimit)) f
   pub scale-within : Within (pos scaleLimit) scale
   pub turned-within : Within (pos scaleLimit) turned
@@ -52,14 +53,17 @@ pub record IsPair (entries : List ℤ) (level x cy : ℕ) (p : Pair) : Type 0 wh
   pub right-is : p .right ≡ figureIn entries (suc level) (2 * x + 1) cy
 
 -- ---- rows
+-- l with f 0, f 1, and so on in place of its first m entries
+abbrev pub overwrite : {A : Type 0} → ℕ → (ℕ → A) → List A → List A
+overwrite m f l = tabulate m f ++ drop m l
+
 -- l begins with g of the figures of row cy of a level
 pub record Row {A : Type 0} (g : ℤ → A) (o : A) (entries : List ℤ) (level cy : ℕ) (l : List A) : Type 0 where
   pub entry : (x : ℕ) → x < 2 ^ level → getD l x o ≡ g (figureIn entries level x cy)
 
--- a row is drawn into `before`, which becomes `after`
-pub record HasRow {A : Type 0} (g : ℤ → A) (o : A) (entries : List ℤ) (level cy : ℕ) (before after : List A) : Type 0 where
-  pub row : Row g o entries level cy after
-  pub same-length : length after ≡ length before
+-- the row drawn over the start of l, with the rest of l as it was
+abbrev pub rowOver : {A : Type 0} → (ℤ → A) → List ℤ → ℕ → ℕ → List A → List A
+rowOver g entries level cy l = overwrite (2 ^ level) (λ x. g (figureIn entries level x cy)) l
 
 pub record DrawableRow (entries : List ℤ) (level cy room : ℕ) : Type 0 where
   pub drawable : Drawable entries level
@@ -70,8 +74,3 @@ pub record DrawableRow (entries : List ℤ) (level cy room : ℕ) : Type 0 where
 pub record RefinableRow (entries : List ℤ) (level cy : ℕ) (l : List ℤ) : Type 0 where
   pub drawable : DrawableRow entries (suc level) cy (length l)
   pub parents : Row (λ z. z) (pos 0) entries level (cy / 2) l
-
--- the first n of `after` are g of the figures'
-pub record Shaded (g : ℤ → ℕ) (n : ℕ) (figures : List ℤ) (before after : List ℕ) : Type 0 where
-  pub each : (x : ℕ) → x < n → getD after x 0 ≡ g (getD figures x (pos 0))
-  pub same-length : length after ≡ length before

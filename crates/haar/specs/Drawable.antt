@@ -19,7 +19,7 @@ use Rattle.haar.specs.Plane.{dimensions}
 pub record InRange (entries : List ℤ) : Type 0 where
   pub each : (i : ℕ) → Within (pos entryLimit) (getD entries i (pos 0))
 
--- as deep as a tile can be, with the entries of all levels above this one
+-- no deeper than a tile can be, with the entries of all levels above this one
 pub record Drawable (entries : List ℤ) (level : ℕ) : Type 0 where
   pub shallow : level ≤ greatestDepth
   pub long : children dimensions ^ level ≤ length entries

@@ -1,8 +1,8 @@
--- The grey of an area, as a fraction, and so of a figure.
+-- The grey of a figure, or of a fraction in a figure's place: 4^L times an exact area.
 --
 -- Definitions
 --   full side                    the figure of a cell that is all ink: as large at every level
---   grey side num den            the grey of num / den on a tile of side × side pixels
+--   grey side num den            the grey of num / den in a figure's place, on a tile of side × side pixels
 --   greyOf side f                the grey of the figure f
 use Prim.Native.Nat.{ℕ, _*_}
 use lib.IntN.{ℤ, pos, natAbs, _*ℤ_}
@@ -10,12 +10,13 @@ use Rattle.integers.specs.Units.{unitsPerPixel, fullGrey}
 use Rattle.integers.specs.Clamp.{clamp}
 use Rattle.integers.specs.Rounding.{roundHalfUp}
 
--- 131,072 × side × side: a cell of level L has 4^L times its area for a figure, so the whole tile's area in units, whatever L is
+-- 131,072 × side × side. At level L it is 4^L cells' area, so the tile's, whatever L is.
 abbrev pub full : ℕ → ℕ
 full side = unitsPerPixel * (side * side)
 
 -- "The grey is 255 × figure / (131,072 × side × side), the same at every level, rounded to the nearest whole number, halves up, then held between 0 and
--- 255. A figure below zero is 0, white." `natAbs` only says that what is held so is a byte.
+-- 255. A figure below zero is 0, white." `natAbs` reads what is held so, which is not
+-- negative, as a natural number.
 unfoldable pub grey : ℕ → ℤ → ℕ → ℕ
 grey side num den = natAbs (clamp (roundHalfUp (pos fullGrey *ℤ num) (full side * den)) (pos 0) (pos fullGrey))
 

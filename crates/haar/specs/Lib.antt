@@ -11,7 +11,7 @@ pub mod Pictures
 pub mod Greys
 -- two dimensions
 pub mod Plane
--- what drawing asks, and what its functions leave on the way
+-- what drawing asks of its caller, and what the contracts of its inner functions cite
 pub mod Drawable
 pub mod Code
 -- laws

@@ -14,6 +14,7 @@ unfoldable pub tabulate : {A : Type 0} → ℕ → (ℕ → A) → List A
 tabulate zero f = []
 tabulate (suc m) f = f 0 ∷ tabulate m (λ i. f (suc i))
 
--- "A picture has 4^L figures, row by row from the top left." g is the figure itself, or its grey.
+-- "A picture has 4^L figures, row by row from the top left." g is the figure itself, or its grey. The entry of cell (cx, cy) is at cy × 2^L + cx
+-- (`picture-at` of `Laws/Pictures`).
 abbrev pub picture : {A : Type 0} (n : ℕ) → (ℤ → A) → Coefficients n → ℕ → List A
 picture n g t level = tabulate (children n ^ level) (λ i. g (figure n t level (cellAt n (2 ^ level) i)))

@@ -7,11 +7,11 @@ ghost use Rattle.haar.specs.Greys.{greyOf};
 // A pixel has 2^17 units, so a tile's full figure is a power of two too, and to divide by it is to shift.
 const PIXEL_BITS: usize = 17;
 
-// White is 0.
+// Full ink. White is 0.
 const FULL_GREY: u8 = 255;
 
-// The grey of a figure on a tile of side 2^depth. It is held before it is rounded: the figure is compared with 0 and with the full figure first,
-// so that what is multiplied by 255 is below 2^29, whatever the figure.
+// The grey of a figure on a tile of side 2^depth. The figure is compared with 0 and with the full figure first, which gives the same as to round and
+// then to hold, and what is multiplied by 255 is below 2^29, whatever the figure.
 pub fn grey_of(figure: i64, depth: usize) -> u8
     requires { ⌜ depth ≤ greatestDepth ⌝ }
     ensures { λ r. ⌜ r ≡ greyOf (2 ^ depth) figure ⌝ }

@@ -1,7 +1,7 @@
 // Figures and greys from a table of Haar coefficients.
 //
-// The tile is cut into quarters, each quarter into quarters, and so on: a quadtree, whose level j has 2^j by 2^j cells. The table has the area of the
-// whole tile, the root, and three details of each cell that is cut: h, left half less right half; v, upper half less lower half; d, upper left and lower
+// The tile is cut into quarters, each quarter into quarters, and so on: a quadtree, whose level j has 2^j by 2^j cells. The table has the area of all the
+// ink, the root, and three details of each cell that is cut: h, left half less right half; v, upper half less lower half; d, upper left and lower
 // right quarters less the other two. A cell's figure is 4^j times its area, so that nothing is divided on the way down:
 //
 //       figure of a quarter = figure of the cell + 4^j × (± h ± v ± d)             + h | − h      + v      + d | − d
@@ -19,7 +19,7 @@
 // number passes 64 bits.
 ghost use mathlib.Core.Path.{_≡_};
 ghost use Prim.Native.Nat.{suc, _+_, _*_, _/_, _%_, _^_, _<_, _≤_};
-ghost use lib.ListN.{length};
+ghost use lib.ListN.{length, getD};
 ghost use lib.IntN.{pos, _*ℤ_};
 ghost use Rattle.integers.specs.Units.{greatestDepth, greatestSide};
 ghost use Rattle.integers.specs.Within.{Within};
@@ -29,7 +29,7 @@ ghost use Rattle.haar.specs.Table.{place};
 ghost use Rattle.haar.specs.Greys.{greyOf};
 ghost use Rattle.haar.specs.Plane.{dimensions, hDetail, at, figureIn, pictureIn};
 ghost use Rattle.haar.specs.Drawable.{DrawableCell, DrawablePicture};
-ghost use Rattle.haar.specs.Code.{Refinable, RefinableRow, HasRow, DrawableRow, Shaded, scaleLimit, PairRoom, pairOf, IsPair};
+ghost use Rattle.haar.specs.Code.{Refinable, RefinableRow, overwrite, rowOver, DrawableRow, scaleLimit, PairBounds, pairOf, IsPair};
 
 pub mod grey;
 
@@ -71,17 +71,17 @@ fn first_detail(level: usize, x: usize, y: usize) -> usize
     n * n + DETAILS * (y * n + x)
 }
 
-// A level's scale with the sign that v has in row cy of the level below: plus above, minus below.
-fn turned(scale: i64, cy: usize) -> i64
+// A level's scale with the sign that v has in row cy of the next level: plus in the upper half of a cell, minus in the lower half.
+fn turned_scale(scale: i64, cy: usize) -> i64
     requires { ⌜ Within (pos scaleLimit) scale ⌝ }
     ensures { λ r. ⌜ r ≡ halfSign (cy % 2) *ℤ scale ⌝ }
 {
     if cy % 2 == 0 { scale } else { 0 - scale }
 }
 
-// f + (± 4^j) v, plus and minus 4^j h + (± 4^j) d.
+// (f + turned v), plus and minus (scale h + turned d): `turned` is the scale with v's sign.
 fn beside(f: i64, scale: i64, turned: i64, h: i64, v: i64, d: i64) -> Pair
-    requires { ⌜ PairRoom f scale turned h v d ⌝ }
+    requires { ⌜ PairBounds f scale turned h v d ⌝ }
     ensures { λ r. ⌜ r ≡ pairOf f scale turned h v d ⌝ }
 {
     let middle = f + turned * v;
@@ -92,7 +92,7 @@ fn beside(f: i64, scale: i64, turned: i64, h: i64, v: i64, d: i64) -> Pair
     }
 }
 
-// The two children in row cy of cell (x, cy / 2) of a level, from its figure f.
+// The two children, in row cy of the next level, of cell (x, cy / 2) of this one, from its figure f.
 fn children_in_row(table: &[i64], level: usize, x: usize, cy: usize, f: i64) -> Pair
     requires { ⌜ Refinable (now table) level x cy f ⌝ }
     ensures { λ r. ⌜ IsPair (now (table .entry)) level x cy r ⌝ }
@@ -102,14 +102,14 @@ fn children_in_row(table: &[i64], level: usize, x: usize, cy: usize, f: i64) -> 
     beside(
         f,
         scale,
-        turned(scale, cy),
+        turned_scale(scale, cy),
         table[first],
         table[first + 1],
         table[first + 2],
     )
 }
 
-// The figure of cell (cx, cy) of the level below `level`, from its parent's figure f.
+// The figure of cell (cx, cy) of the next level, from its parent's figure f.
 fn child_figure(table: &[i64], level: usize, cx: usize, cy: usize, f: i64) -> i64
     requires { ⌜ Refinable (now table) level (cx / 2) cy f ⌝ }
     ensures { λ r. ⌜ r ≡ figureIn (now (table .entry)) (suc level) cx cy ⌝ }
@@ -134,11 +134,11 @@ pub fn figure_at(table: &[i64], level: usize, cx: usize, cy: usize) -> i64
     child_figure(table, above, cx, cy, f)
 }
 
-// The figures of row cy of the level below `level`, from those of its parents, which stand in the same list: the last cell first, so that no figure is
-// overwritten before it is used.
+// The figures of row cy of the next level, over those of their parents at the start of the row: the last cell first, so that no figure is overwritten
+// before it is used.
 fn refine_row(table: &[i64], level: usize, cy: usize, row: &mut [i64])
     requires { ⌜ RefinableRow (now table) level cy (now row) ⌝ }
-    ensures { λ _. ⌜ HasRow (λ z. z) (pos 0) (now (table .entry)) (suc level) cy (now (row .entry)) (now (row .exit)) ⌝ }
+    ensures { λ _. ⌜ now (row .exit) ≡ rowOver (λ z. z) (now (table .entry)) (suc level) cy (now (row .entry)) ⌝ }
 {
     let mut x = cells_across(level);
     while 0 < x {
@@ -154,7 +154,7 @@ fn refine_row(table: &[i64], level: usize, cy: usize, row: &mut [i64])
 // The figures of row cy of a level.
 fn figure_row(table: &[i64], level: usize, cy: usize, row: &mut [i64])
     requires { ⌜ DrawableRow (now table) level cy (length (now row)) ⌝ }
-    ensures { λ _. ⌜ HasRow (λ z. z) (pos 0) (now (table .entry)) level cy (now (row .entry)) (now (row .exit)) ⌝ }
+    ensures { λ _. ⌜ now (row .exit) ≡ rowOver (λ z. z) (now (table .entry)) level cy (now (row .entry)) ⌝ }
 {
     row[0] = table[0];
     for j in 0..level {
@@ -176,7 +176,7 @@ pub fn figures(table: &[i64], level: usize, picture: &mut [i64])
 // The greys of the first n figures of a row.
 fn shade(figures: &[i64], n: usize, depth: usize, greys: &mut [u8])
     requires { ⌜ (n ≤ length (now figures)) × (n ≤ length (now greys)) × (n ≤ greatestSide) × (depth ≤ greatestDepth) ⌝ }
-    ensures { λ _. ⌜ Shaded (greyOf (2 ^ depth)) n (now (figures .entry)) (now (greys .entry)) (now (greys .exit)) ⌝ }
+    ensures { λ _. ⌜ now (greys .exit) ≡ overwrite n (λ x. greyOf (2 ^ depth) (getD (now (figures .entry)) x (pos 0))) (now (greys .entry)) ⌝ }
 {
     for x in 0..n {
         greys[x] = grey::grey_of(figures[x], depth);
@@ -186,7 +186,7 @@ fn shade(figures: &[i64], n: usize, depth: usize, greys: &mut [u8])
 // The greys of row cy of a level, on a tile of side 2^depth. The figures stand in a row of their own.
 fn grey_row(table: &[i64], depth: usize, level: usize, cy: usize, greys: &mut [u8])
     requires { ⌜ DrawableRow (now table) level cy (length (now greys)) × (depth ≤ greatestDepth) ⌝ }
-    ensures { λ _. ⌜ HasRow (greyOf (2 ^ depth)) 0 (now (table .entry)) level cy (now (greys .entry)) (now (greys .exit)) ⌝ }
+    ensures { λ _. ⌜ now (greys .exit) ≡ rowOver (greyOf (2 ^ depth)) (now (table .entry)) level cy (now (greys .entry)) ⌝ }
 {
     let mut row = [0i64; GREATEST_SIDE];
     figure_row(table, level, cy, &mut row);

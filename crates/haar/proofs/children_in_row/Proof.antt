@@ -27,12 +27,12 @@ places c = cell-details (c .before .pre) (c .first-detail .ensures)
 scale-back : (c : tie.After-scale-of) → Within (pos scaleLimit) (back (c .scale-of .result))
 scale-back c = held-within (held-number tt (scale-within (c .before .before .pre) (c .scale-of .ensures)))
 
-turned-requires : tie.Need-turned-requires
+turned-requires : tie.Need-turned-scale-requires
 turned-requires c κs = scale-back c
 
-turned-within : (c : tie.After-turned) → Within (pos scaleLimit) (c .turned .result)
+turned-within : (c : tie.After-turned-scale) → Within (pos scaleLimit) (c .turned-scale .result)
 turned-within c =
-    within-is refl (sym (c .turned .ensures))
+    within-is refl (sym (c .turned-scale .ensures))
     (within-sign (halfSign-cases (c .before .before .before .args .cy % 2) (mod-lt _ (omega arith))) (scale-back (c .before)))
 
 mul-beside : tie.Need-mul-beside
@@ -86,7 +86,7 @@ returns c =
     (pair-is (a .table .now) (a .level) (a .x) (a .cy)
     (back-is tt (parent-within (s .pre)) ∙ s .pre .is-figure)
     (back-is tt (scale-within (s .pre) (t .before .scale-of .ensures)) ∙ t .before .scale-of .ensures)
-    (back-is tt (turned-within t) ∙ t .turned .ensures)
+    (back-is tt (turned-within t) ∙ t .turned-scale .ensures)
     (back-is tt (detail-within s _) ∙ detail-is (a .table .now) (a .level) (a .x) (a .cy / 2) 0 e (omega arith))
     (back-is tt (detail-within s _) ∙ detail-is (a .table .now) (a .level) (a .x) (a .cy / 2) 1 e (omega arith))
     (back-is tt (detail-within s _) ∙ detail-is (a .table .now) (a .level) (a .x) (a .cy / 2) 2 e (omega arith)))

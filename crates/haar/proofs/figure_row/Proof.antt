@@ -1,5 +1,5 @@
 -- From the root to the level that is asked for.
-use mathlib.Core.Path.{_≡_, sym, _∙_, subst⁻¹}
+use mathlib.Core.Path.{_≡_, _∙_, subst⁻¹}
 use mathlib.Core.List.{List}
 use Prim.Native.Nat.{_-_}
 use native.Mathlib.Omega.{arith}
@@ -13,9 +13,9 @@ use Rattle.haar.proofs.Descent.{Descent, descent-start, descent-asks, d
 use Rattle.haar.proofs.figure_row.Statement.{statement}
 use Rattle.haar.proofs.figure_row.Tie as tie
 
--- the loop begins when the root is written: the row's length is still that of the row before it
+-- the loop begins when the root is written
 abbrev Inv-loop : tie.InvT-loop
-Inv-loop table level cy row₀ j₀ row j = Descent table level cy (length row₀) row j
+Inv-loop table level cy row₀ j₀ row j = Descent table level cy row₀ row j
 
 abbrev μ-loop : tie.MeasureT-loop
 μ-loop table level cy row₀ j₀ row j = level - j
@@ -38,7 +38,7 @@ module _ (a : tie.After-row Inv-loop μ-loop) where
   drawable = subst⁻¹ (DrawableRow (a .before .args .table .now) (a .before .args .level) (a .before .args .cy)) entry-length (a .before .pre)
 
 loop-holds : tie.Need-loop-holds Inv-loop μ-loop
-loop-holds c = descent-start (drawable c) (c .before .args .row .now) (sym (entry-length c)) (root-is (c .before .pre .drawable) 0 _)
+loop-holds c = descent-start (c .before .args .row .now) (slice-set-from-row c) (root-is (c .before .pre .drawable) 0 _)
 
 sub-refine-row : tie.Need-sub-refine-row Inv-loop μ-loop
 sub-refine-row c = c .before .loop .inv .reached
@@ -65,7 +65,7 @@ same-length : tie.Need-same-length Inv-loop μ-loop
 same-length c = c .before .loop .inv .same-length ∙ entry-length (c .before .before)
 
 returns : tie.Need-returns Inv-loop μ-loop
-returns c = descent-end (drawable (c .before .before)) (c .before .before .before .args .row .now) (sym (entry-length (c .before .before))) (c .loop-test .left) (c .before .loop .inv)
+returns c = let s = c .before .before .before in descent-end (s .args .row .now) _ (s .pre .enough) (c .loop-test .left) (c .before .loop .inv)
 
 pub figure-row-spec : {M : Type 1} → statement M
 figure-row-spec =

@@ -10,30 +10,36 @@ use lib.IntN.{ℤ, pos}
 use Rattle.integers.specs.Units.{greatestSide}
 use Rattle.integers.specs.Bits.{field-is}
 use Rattle.haar.specs.Greys.{greyOf}
-use Rattle.haar.specs.Code.{Shaded}
+use Rattle.haar.proofs.Overwrite.{overwrite-unique}
 use Rattle.haar.proofs.shade.Statement.{statement}
 use Rattle.haar.proofs.shade.Tie as tie
 
--- the first x are shaded, and then one more
-shaded-step : {g : ℤ → ℕ} {x : ℕ} {figures : List ℤ} {before l : List ℕ} {v : ℕ} → Shaded g x figures before l → x < length l
-    → v ≡ g (getD figures x (pos 0)) → Shaded g (x + 1) figures before (set l x v)
+-- the first x entries of l are shaded, and the others as before
+record Shaded (g : ℤ → ℕ) (figures : List ℤ) (before l : List ℕ) (x : ℕ) : Type 0 where
+  shaded : (i : ℕ) → i < x → getD l i 0 ≡ g (getD figures i (pos 0))
+  rest : (i : ℕ) → x ≤ i → getD l i 0 ≡ getD before i 0
+  same-length : length l ≡ length before
+
+shaded-step : {g : ℤ → ℕ} {x : ℕ} {figures : List ℤ} {before l : List ℕ} {v : ℕ} → Shaded g figures before l x → x < length l
+    → v ≡ g (getD figures x (pos 0)) → Shaded g figures before (set l x v) (x + 1)
 shaded-step {g} {x} {figures} {before} {l} {v} s h e = record {
-  each = λ i k.
+  shaded = λ i k.
       elim (decLt i x) [
-        | yes p ↦ getD-set-other l x i v 0 (omega arith) ∙ s .each i p
+        | yes p ↦ getD-set-other l x i v 0 (omega arith) ∙ s .shaded i p
         | no p ↦ (let q : x ≡ i = omega arith in subst (λ i. getD (set l x v) i 0 ≡ g (getD figures i (pos 0))) q (getD-set-same l x v 0 h ∙ e))
       ];
+  rest = λ i k. getD-set-other l x i v 0 (omega arith) ∙ s .rest i (omega arith);
   same-length = length-set l x v ∙ s .same-length;
 }
 
 abbrev Inv-loop : tie.InvT-loop
-Inv-loop figures n depth greys₀ x₀ greys x = Shaded (greyOf (2 ^ depth)) x figures greys₀ greys × (x ≤ n)
+Inv-loop figures n depth greys₀ x₀ greys x = Shaded (greyOf (2 ^ depth)) figures greys₀ greys x × (x ≤ n)
 
 abbrev μ-loop : tie.MeasureT-loop
 μ-loop figures n depth greys₀ x₀ greys x = n - x
 
 loop-holds : tie.Need-loop-holds Inv-loop μ-loop
-loop-holds c = (record { each = λ x h. absurd (omega arith); same-length = refl }, omega arith)
+loop-holds c = (record { shaded = λ i h. absurd (omega arith); rest = λ i h. refl; same-length = refl }, omega arith)
 
 -- what is left of the row, in the loop
 module _ (i : tie.In-loop Inv-loop μ-loop) where
@@ -75,8 +81,10 @@ same-length c = c .before .loop .inv .0 .same-length
 returns : tie.Need-returns Inv-loop μ-loop
 returns c =
     let s = c .before .before .before in
+    let g = c .before .loop .inv .0 in
     let e : c .before .loop .x ≡ s .args .n = omega (arith, c .before .loop .inv .1, c .loop-test .left) in
-    subst (λ n. Shaded (greyOf (2 ^ s .args .depth)) n (s .args .figures .now) (s .args .greys .now) (c .before .loop .greys)) e (c .before .loop .inv .0)
+    overwrite-unique 0 (s .args .n) (λ x. greyOf (2 ^ s .args .depth) (getD (s .args .figures .now) x (pos 0))) (s .args .greys .now) (c .before .loop .greys)
+    (s .pre .1) (g .same-length) (λ i h. g .shaded i (omega arith)) (λ i h. g .rest i (omega arith))
 
 pub shade-spec : {M : Type 1} → statement M
 shade-spec =

@@ -3,7 +3,7 @@
 -- Main results
 --   parent-child, childNumber-child, child-parent        a child's parent and number are those it was made from, and every cell is a child
 --   childNumber-lt, below-parent                         a cell of a level is one of `children n` children of a cell one level up
---   rowMajor-lt, below-cellAt                            places and cells of a level
+--   rowMajor-lt, below-cellAt                            a cell's place is one of the level's, and a place's cell one of its cells
 --   cellAt-rowMajor, rowMajor-cellAt                     each cell has one place, and each place one cell
 --   level-cells, level-square                            a level has as many cells as it has in each direction, to the power n
 --   next-level                                           and the next has as many more as these have details

@@ -1,4 +1,5 @@
--- How large a figure is: it is a sum over the levels above it, and so is its bound. Bounds of differences of tables are bounds of their figures' differences.
+-- How large a figure is, either way: it is a sum over the levels above it, and so is its bound. With `figure-linear`, a bound of how far two tables are
+-- apart is one of how far their figures are.
 --
 -- Main results
 --   bound n r b level cell       what bounds a figure, where r bounds the root and b the details of each cell in which it lies

@@ -2,7 +2,7 @@
 --
 -- Main results
 --   figure-root, figure-next     the root's figure, and a cell's from its parent's: the definition's two clauses, which every other law goes by
---   figure-child                 a child's figure is its parent's, and the details with the child's signs
+--   figure-child                 a child's figure is its parent's, and B^j times the details with the child's signs
 --   SameBelow n depth t u        two tables have the same root, and the same details at every level below the depth
 --   figure-same                  they have the same figures, down to the depth
 use mathlib.Core.Path.{_≡_, refl, sym, _∙_, ap, ap₂, subst}

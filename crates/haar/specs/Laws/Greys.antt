@@ -1,4 +1,4 @@
--- Greys: bytes that move with the fraction whose grey they are. Sides and denominators are above 0.
+-- Greys are bytes, rise with the fraction, and move by at most one where it moves by less than a grey. Sides and denominators are above 0.
 --
 -- Main results
 --   full-pos                     a tile's full figure is above 0
@@ -71,6 +71,7 @@ module _ {side : ℕ} (s : 0 < side) (a b : ℤ) {d e : ℕ} (g : 0 < d) (h : 0 
 pub greyOf-mono : {side : ℕ} {f g : ℤ} → 0 < side → f ≤ℤ g → greyOf side f ≤ greyOf side g
 greyOf-mono {side} {f} {g} s k = grey-mono s f g (omega arith) (omega arith) (lin≤ (f ∷ g ∷ []) (le k) (search linear depth 40) tt)
 
+-- at most one apart
 pub record OneApart (a b : ℕ) : Type 0 where
   pub up : a ≤ b + 1
   pub down : b ≤ a + 1

@@ -1,4 +1,4 @@
--- The signs of details at children. Row e holds the signs of detail e at all the children; row 0, which no detail has, is the plain one.
+-- The signs of details at children. Row e holds the signs of detail e at all the children; row 0, which no detail has, is the plain one: all 1.
 --
 -- Main results
 --   sign-step                    the first direction's sign, times that of the others
@@ -70,7 +70,7 @@ unfolding sign
 sign-cases e c = alternate-cases (ones (bitAnd e c))
 
 -- ---- rows
--- Two rows' product in the first half of a direction, and that in the second: a and b are 1 where the row turns in the second half, and else 0.
+-- Two rows' product in the first half of a direction and that in the second, added: a and b are 1 where the row turns in the second half, else 0.
 abbrev halves : ℕ → ℕ → ℤ
 halves a b = pos 1 +ℤ halfSign a *ℤ halfSign b
 

@@ -10,8 +10,8 @@ use Rattle.integers.specs.HalfSign.{halfSign}
 use Rattle.integers.specs.Bits.{back}
 use Rattle.integers.specs.Held.{Held, held-number, held-neg, held-fits, held-back}
 use Rattle.haar.specs.Code.{scaleLimit}
-use Rattle.haar.proofs.turned.Statement.{statement}
-use Rattle.haar.proofs.turned.Tie as tie
+use Rattle.haar.proofs.turned_scale.Statement.{statement}
+use Rattle.haar.proofs.turned_scale.Tie as tie
 
 module _ (s : tie.Start) where
   opposite : Held scaleLimit (pos 0 -ℤ back (s .args .scale)) (negℤ (s .args .scale))
@@ -30,5 +30,5 @@ returns-2 c =
     let s = c .before in
     held-back tt (opposite s) .is ∙ ring (s .args .scale ∷ []) (search read depth 40) tt ∙ ap (λ b. halfSign b *ℤ s .args .scale) {x = 1} {y = s .args .cy % 2} (omega arith)
 
-pub turned-spec : {M : Type 1} → statement M
-turned-spec = tie.close (tie.spec sub-result returns returns-2)
+pub turned-scale-spec : {M : Type 1} → statement M
+turned-scale-spec = tie.close (tie.spec sub-result returns returns-2)
