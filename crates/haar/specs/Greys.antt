@@ -10,13 +10,12 @@ use Rattle.integers.specs.Units.{unitsPerPixel, fullGrey}
 use Rattle.integers.specs.Clamp.{clamp}
 use Rattle.integers.specs.Rounding.{roundHalfUp}
 
--- 131,072 × side × side. At level L it is 4^L cells' area, so the tile's, whatever L is.
+-- Such a cell of level L has a 4^L-th of the tile's area, and its figure is 4^L times that: 131,072 × side × side, whatever L is.
 abbrev pub full : ℕ → ℕ
 full side = unitsPerPixel * (side * side)
 
 -- "The grey is 255 × figure / (131,072 × side × side), the same at every level, rounded to the nearest whole number, halves up, then held between 0 and
--- 255. A figure below zero is 0, white." `natAbs` reads what is held so, which is not
--- negative, as a natural number.
+-- 255. A figure below zero is 0, white." `natAbs` reads what is held so, and is not negative, as a natural number.
 unfoldable pub grey : ℕ → ℤ → ℕ → ℕ
 grey side num den = natAbs (clamp (roundHalfUp (pos fullGrey *ℤ num) (full side * den)) (pos 0) (pos fullGrey))
 

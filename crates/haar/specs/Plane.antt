@@ -17,7 +17,7 @@ use Rattle.haar.specs.Pictures.{picture}
 abbrev pub dimensions : ℕ
 dimensions = 2
 
--- bit 1 for x, bit 2 for y: "h: area in the left half less area in the right half; v: upper half less lower half; d: upper left and lower right quarters,
+-- x has the bit worth 1, y the bit worth 2: "h: area in the left half less area in the right half; v: upper half less lower half; d: upper left and lower right quarters,
 -- less the other two"
 abbrev pub hDetail : ℕ
 hDetail = 1
