@@ -17,7 +17,7 @@ use Rattle.haar.specs.Cells.{children}
 use Rattle.haar.specs.Table.{stored}
 use Rattle.haar.specs.Plane.{dimensions, figureIn}
 use Rattle.haar.specs.Drawable.{Drawable, DrawableCell}
-use Rattle.haar.specs.Code.{Refinable}
+use Rattle.haar.specs.Pairs.{Refinable}
 use Rattle.haar.specs.Laws.Quarters.{figure-top}
 
 pub root-inside : {entries : List ℤ} {level : ℕ} → Drawable entries level → 0 < length entries
@@ -35,8 +35,8 @@ shallower d h = record {
 
 pub cell-above : {entries : List ℤ} {level cx cy : ℕ} → DrawableCell entries (suc level) cx cy → DrawableCell entries level (cx / 2) (cy / 2)
 cell-above {level = level} d =
-    record { drawable = shallower (d .drawable) (omega arith); x = omega (arith, d .x, pow-succ' 2 level); y = omega (arith, d .y, pow-succ' 2 level) }
+    record { drawable = shallower (d .drawable) (omega arith); x-below = omega (arith, d .x-below, pow-succ' 2 level); y-below = omega (arith, d .y-below, pow-succ' 2 level) }
 
 pub cell-refinable : {entries : List ℤ} {level cx cy : ℕ} {f : ℤ} → DrawableCell entries (suc level) cx cy
     → f ≡ figureIn entries level (cx / 2) (cy / 2) → Refinable entries level (cx / 2) cy f
-cell-refinable d e = record { drawable = d .drawable; x-below = cell-above d .x; y-below = d .y; is-figure = e }
+cell-refinable d e = record { drawable = d .drawable; x-below = cell-above d .x-below; y-below = d .y-below; is-figure = e }

@@ -3,6 +3,7 @@
 -- Main results
 --   CellDetails, cell-details          the three entries of a cell are in the table
 --   detail-is                          and are its details
+--   half-row                           the row of the cell
 --   parent-within, scale-within        how large its figure and its scale are
 --   pair-is                            the two figures
 use mathlib.Core.Path.{_≡_, refl, sym, _∙_, ap, ap₂}
@@ -20,9 +21,10 @@ use Rattle.integers.specs.HalfSign.{halfSign}
 use Rattle.haar.specs.Cells.{children}
 use Rattle.haar.specs.Table.{place, stored}
 use Rattle.haar.specs.Plane.{dimensions, hDetail, vDetail, dDetail, at, figureAt, figureIn}
-use Rattle.haar.specs.Code.{Refinable, scaleLimit, pairOf, IsPair}
+use Rattle.haar.specs.Pairs.{Refinable, scaleLimit, parentLimit, pairOf, IsPair}
 use Rattle.haar.specs.Laws.Layout.{place-plane, place-high}
-use Rattle.haar.specs.Laws.Quarters.{quarterFigure, figure-quarter, figure-in-range}
+use Rattle.haar.specs.Laws.Quarters.{quarterFigure, figure-quarter}
+use Rattle.haar.specs.Laws.FigureLimit.{figure-in-range}
 
 -- the first of a cell's entries, with two more after it
 pub record CellDetails (entries : List ℤ) (first : ℕ) : Type 0 where
@@ -45,7 +47,7 @@ module _ {entries : List ℤ} {level x cy : ℕ} {f : ℤ} (r : Refinable entrie
         few = omega (arith, pow-le-pow-right {n = children dimensions} (omega arith) (r .drawable .shallow));
       }
 
-  pub parent-within : Within (pos (scaleLimit * entryLimit)) f
+  pub parent-within : Within (pos parentLimit) f
   parent-within =
       within-is refl (sym (r .is-figure))
       (within-le (pos-≤ℤ (mul-le-mul-right entryLimit scale-few))

@@ -14,7 +14,7 @@ use lib.Seq.{getD-set-same, getD-set-other}
 use lib.Pow.{pow-pos, pow-mono, shr-lt, shr-shr}
 use lib.IntN.{ℤ, pos}
 use Rattle.haar.specs.Plane.{figureIn}
-use Rattle.haar.specs.Code.{Row, rowOver, DrawableRow, RefinableRow}
+use Rattle.haar.specs.Rows.{Row, rowOver, DrawableRow, RefinableRow}
 use Rattle.haar.proofs.Above.{shallower}
 use Rattle.haar.proofs.Overwrite.{overwrite-length, overwrite-entry, overwrite-rest, overwrite-unique}
 
@@ -23,7 +23,7 @@ module _ (entries : List ℤ) (level cy : ℕ) (start : List ℤ) where
   pub record Descent (row : List ℤ) (j : ℕ) : Type 0 where
     pub reached : j ≤ level
     pub same-length : length row ≡ length start
-    pub figures : Row (λ z. z) (pos 0) entries j (cy / 2 ^ (level - j)) row
+    pub figures : Row entries j (cy / 2 ^ (level - j)) row
     pub rest : (i : ℕ) → 2 ^ level ≤ i → getD row i (pos 0) ≡ getD start i (pos 0)
 
 pub descent-start : {entries : List ℤ} {level cy : ℕ} (row : List ℤ) {root : ℤ} → 0 < length row → root ≡ figureIn entries 0 0 (cy / 2 ^ (level - 0))
@@ -47,7 +47,7 @@ module _ {entries : List ℤ} {level cy : ℕ} {start : List ℤ} (d : DrawableR
       y-below = shr-lt (suc j) (level - j - 1) (subst (λ k. cy < 2 ^ k) (omega arith) (d .y-below));
       enough = omega (arith, d .enough, g .same-length, pow-mono h);
     };
-    parents = subst (λ y. Row (λ z. z) (pos 0) entries j y row) (sym (shr-shr cy (level - j - 1) 1 ∙ ap (λ k. cy / 2 ^ k) (omega arith))) (g .figures);
+    parents = subst (λ y. Row entries j y row) (sym (shr-shr cy (level - j - 1) 1 ∙ ap (λ k. cy / 2 ^ k) (omega arith))) (g .figures);
   }
 
   pub descent-step : {row row′ : List ℤ} {j : ℕ} → j < level → Descent entries level cy start row j
@@ -55,8 +55,8 @@ module _ {entries : List ℤ} {level cy : ℕ} {start : List ℤ} (d : DrawableR
   descent-step {row} {row′} {j} h g e = subst⁻¹ (λ r. Descent entries level cy start r (j + 1)) e (record {
     reached = omega arith;
     same-length = overwrite-length m f row (omega (arith, d .enough, g .same-length, pow-mono h)) ∙ g .same-length;
-    figures = subst (λ k. Row (λ z. z) (pos 0) entries k (cy / 2 ^ (level - k)) drawn) {x = suc j} {y = j + 1} (omega arith)
-        (subst (λ k. Row (λ z. z) (pos 0) entries (suc j) (cy / 2 ^ k) drawn) {x = level - j - 1} {y = level - suc j} (omega arith)
+    figures = subst (λ k. Row entries k (cy / 2 ^ (level - k)) drawn) {x = suc j} {y = j + 1} (omega arith)
+        (subst (λ k. Row entries (suc j) (cy / 2 ^ k) drawn) {x = level - j - 1} {y = level - suc j} (omega arith)
         (record { entry = overwrite-entry (pos 0) m f row }));
     rest = λ i k. overwrite-rest (pos 0) m f row i (omega (arith, pow-mono h)) ∙ g .rest i k;
   })
@@ -76,7 +76,7 @@ descent-end {entries} {level} {cy} before root {row} {j} n h g =
     overwrite-unique (pos 0) (2 ^ level) (λ x. figureIn entries level x cy) before row n (g .same-length ∙ length-set before 0 root) (figures .entry)
     (λ i k. g .rest i k ∙ getD-set-other before 0 i root (pos 0) (omega (arith, pow-pos level)))
   where
-    figures : Row (λ z. z) (pos 0) entries level cy row
+    figures : Row entries level cy row
     figures =
-        subst (λ y. Row (λ z. z) (pos 0) entries level y row) (ap (λ k. cy / 2 ^ k) {y = 0} (omega arith) ∙ div-one cy)
-        (subst (λ k. Row (λ z. z) (pos 0) entries k (cy / 2 ^ (level - k)) row) {x = j} {y = level} (omega (arith, g .reached)) (g .figures))
+        subst (λ y. Row entries level y row) (ap (λ k. cy / 2 ^ k) {y = 0} (omega arith) ∙ div-one cy)
+        (subst (λ k. Row entries k (cy / 2 ^ (level - k)) row) {x = j} {y = level} (omega (arith, g .reached)) (g .figures))

@@ -11,7 +11,7 @@ use lib.Pow.{pow-mono}
 use Rattle.integers.specs.Units.{greatestDepth}
 use Rattle.haar.specs.Cells.{children}
 use Rattle.haar.specs.Plane.{dimensions}
-use Rattle.haar.specs.Code.{scaleLimit}
+use Rattle.haar.specs.Pairs.{scaleLimit}
 use Rattle.haar.specs.Laws.Cells.{level-square}
 
 pub record LevelNumbers (level n : ℕ) : Type 0 where

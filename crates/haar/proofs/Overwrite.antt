@@ -1,4 +1,4 @@
--- A list with its first entries replaced, by its entries.
+-- The entries of a list of which the first are replaced.
 --
 -- Main results
 --   overwrite-length                     it is as long as before
@@ -13,7 +13,7 @@ use native.Mathlib.Decide.{decLt}
 use lib.ListN.{length, getD, drop, length-append, length-drop, List·getD-append}
 use lib.Seq.{ext-getD, getD-append-add, getD-drop}
 use Rattle.haar.specs.Pictures.{tabulate}
-use Rattle.haar.specs.Code.{overwrite}
+use Rattle.haar.specs.Rows.{overwrite}
 use Rattle.haar.specs.Laws.Pictures.{tabulate-length, tabulate-entry, tabulate-unique}
 
 pub overwrite-length : {A : Type 0} (m : ℕ) (f : ℕ → A) (l : List A) → m ≤ length l → length (overwrite m f l) ≡ length l

@@ -20,7 +20,7 @@ use Rattle.integers.specs.Units.{greatestSide}
 use Rattle.haar.specs.Table.{stored}
 use Rattle.haar.specs.Plane.{dimensions, figureIn, pictureIn}
 use Rattle.haar.specs.Drawable.{DrawablePicture}
-use Rattle.haar.specs.Code.{rowOver, DrawableRow}
+use Rattle.haar.specs.Rows.{rowOver, DrawableRow}
 use Rattle.haar.specs.Laws.Cells.{level-square}
 use Rattle.haar.specs.Laws.Pictures.{picture-of-entries}
 use Rattle.haar.proofs.Overwrite.{overwrite-length, overwrite-entry}

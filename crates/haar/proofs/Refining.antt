@@ -18,7 +18,8 @@ use lib.Pow.{pow-mono}
 use lib.IntN.{ℤ, pos}
 use Rattle.integers.specs.Units.{greatestSide}
 use Rattle.haar.specs.Plane.{figureIn}
-use Rattle.haar.specs.Code.{rowOver, RefinableRow, Refinable}
+use Rattle.haar.specs.Pairs.{Refinable}
+use Rattle.haar.specs.Rows.{rowOver, RefinableRow}
 use Rattle.haar.proofs.Overwrite.{overwrite-unique}
 
 module _ (entries : List ℤ) (level cy : ℕ) (before : List ℤ) where

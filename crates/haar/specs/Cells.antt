@@ -1,9 +1,9 @@
--- The cells of a tree in which every cell has a child in each half of each of n directions: a quadtree's for n = 2.
+-- The cells of a tree in which every cell is cut in half in each of n directions: a quadtree's for n = 2.
 --
 -- Definitions
 --   children n, details n        how many children and how many details a cell has
 --   Cell n                       a cell of a level, by its number in each direction, x first
---   Below n m cell               it is one of the m in each direction
+--   Below n m cell               each of its numbers is below m
 --   rowMajor n m cell            its place among them, row by row
 --   cellAt n m i                 the cell at place i
 --   parent, childNumber          the cell that a cell lies in, and which of its children it is

@@ -27,8 +27,8 @@ pub record Drawable (entries : List ℤ) (level : ℕ) : Type 0 where
 
 pub record DrawableCell (entries : List ℤ) (level cx cy : ℕ) : Type 0 where
   pub drawable : Drawable entries level
-  pub x : cx < 2 ^ level
-  pub y : cy < 2 ^ level
+  pub x-below : cx < 2 ^ level
+  pub y-below : cy < 2 ^ level
 
 pub record DrawablePicture (entries : List ℤ) (level room : ℕ) : Type 0 where
   pub drawable : Drawable entries level

@@ -1,5 +1,5 @@
 -- Figures from a table: "The figure of a cell at level L is 4^L times its area in units, worked from the table alone". Here is how it is worked;
--- `Laws/Areas` has that it is 4^L times the area, where the table has the details of areas.
+-- `Laws/Areas` has that it is 4^L times the area, where the details are differences of areas.
 --
 -- Definitions
 --   signedDetails n w c          a cell's details w with their signs at child c, added up

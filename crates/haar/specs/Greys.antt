@@ -1,4 +1,4 @@
--- The grey of a figure, or of a fraction in a figure's place: 4^L times an exact area.
+-- The grey of a figure; and of a fraction in its place, for 4^L times an exact area need not be whole.
 --
 -- Definitions
 --   full side                    the figure of a cell that is all ink: as large at every level
@@ -14,8 +14,8 @@ use Rattle.integers.specs.Rounding.{roundHalfUp}
 abbrev pub full : ℕ → ℕ
 full side = unitsPerPixel * (side * side)
 
--- "The grey is 255 × figure / (131,072 × side × side), the same at every level, rounded to the nearest whole number, halves up, then held between 0 and
--- 255. A figure below zero is 0, white." `natAbs` reads what is held so, and is not negative, as a natural number.
+-- "The grey is 255 × figure / (131,072 × side × side), the same at every level, rounded to the nearest whole number, halves up, then held
+-- between 0 and 255. A figure below zero is 0, white." What is held so is not negative, and `natAbs` only makes a natural number of it.
 unfoldable pub grey : ℕ → ℤ → ℕ → ℕ
 grey side num den = natAbs (clamp (roundHalfUp (pos fullGrey *ℤ num) (full side * den)) (pos 0) (pos fullGrey))
 

@@ -12,8 +12,9 @@ pub mod FigureBounds
 pub mod FigureLinear
 -- a table is known by its coefficients
 pub mod Stored
--- 01's own formula, in two dimensions
+-- two dimensions: 01's own formula, and question 9's range
 pub mod Quarters
+pub mod FigureLimit
 -- pictures
 pub mod Pictures
 -- totals of a level

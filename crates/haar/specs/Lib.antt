@@ -13,6 +13,7 @@ pub mod Greys
 pub mod Plane
 -- what drawing asks of its caller, and what the contracts of its inner functions cite
 pub mod Drawable
-pub mod Code
+pub mod Pairs
+pub mod Rows
 -- laws
 pub mod Laws

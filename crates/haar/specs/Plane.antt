@@ -17,8 +17,8 @@ use Rattle.haar.specs.Pictures.{picture}
 abbrev pub dimensions : ℕ
 dimensions = 2
 
--- x has the bit worth 1, y the bit worth 2: "h: area in the left half less area in the right half; v: upper half less lower half; d: upper left and lower right quarters,
--- less the other two"
+-- x has the bit worth 1, y the bit worth 2. "h: area in the left half less area in the right half; v: upper half less lower half; d: upper left and
+-- lower right quarters, less the other two": each is turned in the second half of its directions.
 abbrev pub hDetail : ℕ
 hDetail = 1
 

@@ -1,8 +1,8 @@
 -- The sign that a detail has at a child, in any number of dimensions.
 --
--- A cell is cut in half in each direction. A child's number has the bit worth 1 where it lies in the second half of x (on the right), the bit worth 2 in
--- the second half of y (the lower one), the bit worth 4 in the second half of z. A detail's number has the bit of each direction in which it takes
--- second halves from first halves. The signs are a Walsh–Hadamard matrix; on the tile they are 01's (`figure-quarter` of `Laws/Quarters`).
+-- A child's number has the bit worth 1 where it lies in the second half of x (on the right), the bit worth 2 in the second half of y (the lower
+-- one), the bit worth 4 in the second half of z. A detail's number has the bit of each direction in which it takes second halves from first halves.
+-- The signs are a Walsh–Hadamard matrix; on the tile they are 01's (`figure-quarter` of `Laws/Quarters`).
 --
 -- Definitions
 --   alternate n         (−1)^n

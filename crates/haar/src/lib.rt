@@ -1,22 +1,22 @@
 // Figures and greys from a table of Haar coefficients.
 //
-// The tile is cut into quarters, each quarter into quarters, and so on: a quadtree, whose level j has 2^j by 2^j cells. The table has the area of all the
-// ink, the root, and three details of each cell that is cut: h, left half less right half; v, upper half less lower half; d, upper left and lower
-// right quarters less the other two. A cell's figure is 4^j times its area, so that nothing is divided on the way down:
+// The tile is cut into quarters, each quarter into quarters, and so on: a quadtree, whose level j has 2^j by 2^j cells. The table has the area of
+// all the ink, the root, and three details of each cell that is cut: h, left half less right half; v, upper half less lower half; d, upper left and
+// lower right quarters less the other two. A cell's figure is 4^j times its area, so that nothing is divided on the way down:
 //
 //       figure of a quarter = figure of the cell + 4^j × (± h ± v ± d)             + h | − h      + v      + d | − d
 //                                                                                      |         -----    -----+-----
 //       h is plus on the left, v above, d in the upper left and lower right            |          − v      − d | + d
 //
-// A picture is drawn row by row. The cells of one row lie, at each level above, in one row too, of half as many cells each time. So a row begins as the
-// root alone and is refined in place, level by level, into 2, 4, 8 .. figures. Along a row v keeps its sign, and two children that lie side by side
-// differ in the signs of h and d alone:
+// A picture is drawn row by row. The cells of one row lie, at each level above, in one row too, of half as many cells each time. So a row begins as
+// the root alone and is refined in place, level by level, into 2, 4, 8 .. figures. Along a row v keeps its sign, and two children that lie side by
+// side differ in the signs of h and d alone:
 //
 //       left, right  =  (f ± 4^j v)  plus and minus  (4^j h ± 4^j d)
 //
-// A row of level L takes 1 + 2 + 4 + .. + 2^(L−1) such pairs, so that a picture takes fewer pairs than it has cells. Greys need one row of figures, at
-// most 64, beside the picture. One cell alone takes a pair for each level. Figures of a table whose entries are within 2^40 are within 2^52, so no
-// number passes 64 bits.
+// A row of level L takes 1 + 2 + 4 + .. + 2^(L−1) such pairs, so that a picture takes fewer pairs than it has cells. Greys need one row of figures,
+// at most 64, beside the picture. One cell alone takes a pair for each level. Figures of a table whose entries are within 2^40 are within 2^52, so
+// no number passes 64 bits.
 ghost use mathlib.Core.Path.{_≡_};
 ghost use Prim.Native.Nat.{suc, _+_, _*_, _/_, _%_, _^_, _<_, _≤_};
 ghost use lib.ListN.{length, getD};
@@ -29,7 +29,8 @@ ghost use Rattle.haar.specs.Table.{place};
 ghost use Rattle.haar.specs.Greys.{greyOf};
 ghost use Rattle.haar.specs.Plane.{dimensions, hDetail, at, figureIn, pictureIn};
 ghost use Rattle.haar.specs.Drawable.{DrawableCell, DrawablePicture};
-ghost use Rattle.haar.specs.Code.{Refinable, RefinableRow, overwrite, rowOver, DrawableRow, scaleLimit, PairBounds, pairOf, IsPair};
+ghost use Rattle.haar.specs.Pairs.{Refinable, scaleLimit, PairBounds, pairOf, IsPair};
+ghost use Rattle.haar.specs.Rows.{RefinableRow, overwrite, rowOver, DrawableRow};
 
 pub mod grey;
 

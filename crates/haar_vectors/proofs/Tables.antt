@@ -63,7 +63,7 @@ entries-cell {level = level} {n} {most} {i} e h p q k =
     let n>0 : 0 < n = omega (arith, pow-pos level) in
     let s : n * n ≡ most = ap (λ m. m * m) p ∙ level-square level ∙ sym q in
     let y : i / n < n = div-lt-iff-lt-mul n>0 .1 (omega arith) in
-    record { drawable = entries-drawable e h; x = omega (arith, mod-lt i n>0); y = omega arith }
+    record { drawable = entries-drawable e h; x-below = omega (arith, mod-lt i n>0); y-below = omega arith }
 
 -- the first n of some places, for the n cells of a level
 pub record Part {A : Type 0} (entries : List ℤ) (level n : ℕ) (places : List A) : Type 0 where

@@ -1,12 +1,10 @@
-// Runs the code of `haar` as it is compiled. A case is a line of standard input. Where it has a table, the program prints for each level the figures
-// of the picture, the same figures with each cell asked for alone, and the greys; of a level of more than 64 cells, a checksum of each. Where it asks
-// for one cell of the last table, that cell's figure and grey. A line that is not well formed, or has a number out of range, is refused.
+// Runs the code of `haar` as it is compiled. A case is a line of standard input; blank lines and those that begin with `#` are passed over. Where it
+// has a table, the program prints for each level the figures of the picture, the same figures with each cell asked for alone, and the greys; of a
+// level of more than 64 cells, a checksum of each. Where it asks for one cell of the last table, that cell's figure and grey. A line that is not well
+// formed, or has a number out of range, is refused.
 //
-// `stdin` has the cases, each kind under a comment, and `stdout` what must be printed. That was worked out another way, from 01's words and in exact
-// fractions. A figure is one sum: the root, and for each level j above the cell 4^j times the h, v and d of the cell in which its middle lies, with
-// the signs of the halves in which it lies. It was compared with 4^L times the cell's area: that the whole is the sum of its quarters, and h, v and d
-// are differences of them, are four equations, which were solved for the quarters' areas from the root down. A grey is the greatest whole number
-// that is not above the fraction plus one half, held between 0 and 255.
+// `stdout` has what must be printed, worked out from 01's words in another way, in exact fractions: a figure as one sum over the levels above the
+// cell, by the halves in which the cell lies, and again as 4^L times the area that solves 01's equations for h, v and d from the root down.
 ghost use mathlib.Core.Path.{_≡_};
 ghost use Prim.Native.Nat.{_^_, _≤_};
 ghost use lib.ListN.{length};
@@ -259,38 +257,37 @@ fn show_cell(table: &[i64], depth: usize, level: usize, x: usize, y: usize)
     print_cell(depth, level, x, y, figure_at(table, level, x, y));
 }
 
-// What a line asks for: nothing, where it is refused or there is no table; a cell; or all of the table.
-fn show(table: &[i64], kind: u8, depth: usize, level: usize, x: usize, y: usize)
+// What a line asks for: a cell, or all of the table; or that it is refused, as where there is no table.
+fn show(table: &[i64], r: Reader)
     requires { ⌜ Entries (now table) ⌝ }
 {
+    let kind = r.kind;
+    let depth = r.depth;
     if kind == WRONG {
         return refuse();
     }
     if GREATEST_DEPTH < depth {
         return refuse();
     }
-    if kind == b'@' {
-        return show_cell(table, depth, level, x, y);
+    if kind != b'@' {
+        io::write_all(STDOUT_FILENO, b"\n");
+        return show_table(table, depth);
     }
-    io::write_all(STDOUT_FILENO, b"\n");
-    show_table(table, depth);
+    if r.place != 3 {
+        return refuse();
+    }
+    show_cell(table, depth, r.level, r.x, r.y);
 }
 
 // ---- the cases, from standard input
 
-// The number that is being read: fresh while it has no digit.
-struct Number {
-    size: u64,
-    negative: bool,
-    fresh: bool,
-}
-
-// The line that is being read: its kind, whether its first word goes on, the number, the place of the next entry, and the last three numbers of a
-// line that asks for a cell. And the depth of the last table.
+// The line that is being read: its kind, which is its first byte; whether its first word goes on; the number that is being read; the place of the
+// next entry, or how many numbers of a cell there were, and the last three of them. And the depth of the last table.
 struct Reader {
     kind: u8,
     word: bool,
-    number: Number,
+    size: u64,
+    negative: bool,
     place: usize,
     level: usize,
     x: usize,
@@ -298,134 +295,118 @@ struct Reader {
     depth: usize,
 }
 
-// A line's kind is its first byte, or one of these: no byte of it has been read, or it is to be refused.
+// The kind of a line of which nothing has been read.
 const START: u8 = 0;
 
+// The kind of a line that is to be refused.
 const WRONG: u8 = 1;
 
-// The size of what is no number, and an index or depth that is none: too large for whatever they stand for.
-const BROKEN: u64 = 9223372036854775808;
+// The size of a number that has no digit yet. It is too large for whatever the number stands for, as is the next.
+const EMPTY: u64 = 9223372036854775808;
 
-const NONE: usize = 4096;
+// The size of what is no number.
+const BROKEN: u64 = 9223372036854775809;
 
-fn no_number() -> Number {
-    Number {
-        size: 0,
-        negative: false,
-        fresh: true,
+// The depth where there is no table.
+const NONE: usize = 7;
+
+// The size with one more digit. One from 2^60 on stays as it is, so that nothing overflows.
+fn longer(size: u64, b: u8) -> u64 {
+    if b < b'0' {
+        return BROKEN;
     }
-}
-
-// One more digit, for a number below 2^60; a larger one stays as it is, so that nothing overflows.
-fn longer(size: u64, digit: u8) -> u64 {
+    if b'9' < b {
+        return BROKEN;
+    }
+    let digit = (b - b'0') as u64;
+    if size == EMPTY {
+        return digit;
+    }
     if size < 1152921504606846976 {
-        size * 10 + digit as u64
+        size * 10 + digit
     } else {
         size
     }
 }
 
-// One more byte of a number.
-fn read_number(mut n: Number, b: u8) -> Number {
-    let size = n.size;
-    if b == b'-' && n.fresh && !n.negative {
-        n.negative = true;
-        return n;
-    }
-    n.fresh = false;
-    n.size = BROKEN;
-    if b < b'0' {
-        return n;
-    }
-    if b'9' < b {
-        return n;
-    }
-    n.size = longer(size, b - b'0');
-    n
-}
-
-fn size_of(n: Number) -> u64 {
-    if n.fresh { BROKEN } else { n.size }
-}
-
-fn index_of(n: Number) -> usize {
-    if n.negative {
-        NONE
+fn index_of(size: u64, negative: bool) -> usize {
+    if negative {
+        BROKEN as usize
     } else {
-        size_of(n) as usize
+        size as usize
     }
 }
 
 // A table that is refused leaves none; a cell that is refused leaves the table.
-fn wrong(mut r: Reader) -> Reader {
-    if r.kind != b'@' {
-        r.depth = NONE;
-    }
+fn wrong(mut r: Reader, depth: usize) -> Reader {
     r.kind = WRONG;
-    r
-}
-
-// `:` after the place of the next entry.
-fn end_place(mut r: Reader) -> Reader {
-    if r.kind == b'@' || GREATEST_DEPTH < r.depth {
-        return wrong(r);
-    }
-    r.place = index_of(r.number);
-    r.number = no_number();
+    r.depth = depth;
     r
 }
 
 // One of the three numbers of a cell.
 fn end_index(mut r: Reader, i: usize) -> Reader {
-    if NONE <= i || r.level < NONE {
-        return wrong(r);
+    let n = r.place;
+    if 3 <= n {
+        return wrong(r, r.depth);
     }
+    r.place = n + 1;
     r.level = r.x;
     r.x = r.y;
     r.y = i;
     r
 }
 
+// The first number of a table.
 fn end_depth(mut r: Reader, depth: usize) -> Reader {
     if GREATEST_DEPTH < depth {
-        return wrong(r);
+        return wrong(r, NONE);
     }
     r.depth = depth;
     r
 }
 
-fn end_entry(mut r: Reader, n: Number, room: usize, table: &mut [i64]) -> Reader
-    requires { ⌜ Entries (now table) ⌝ }
-    ensures { λ _. ⌜ Entries (now (table .exit)) ⌝ }
-{
-    let place = r.place;
-    if room <= place {
-        return wrong(r);
-    }
-    if put(table, place, size_of(n), n.negative) {
-        r.place = place + 1;
-        return r;
-    }
-    wrong(r)
-}
-
+// A space or the line's end after a number.
 fn end_number(mut r: Reader, table: &mut [i64]) -> Reader
     requires { ⌜ Entries (now table) ⌝ }
     ensures { λ _. ⌜ Entries (now (table .exit)) ⌝ }
 {
-    let n = r.number;
+    let kind = r.kind;
+    let size = r.size;
+    let negative = r.negative;
+    let place = r.place;
     let depth = r.depth;
-    r.number = no_number();
-    if r.kind == WRONG {
+    r.size = EMPTY;
+    r.negative = false;
+    if kind == WRONG {
         return r;
     }
-    if r.kind == b'@' {
-        return end_index(r, index_of(n));
+    if kind == b'@' {
+        return end_index(r, index_of(size, negative));
     }
     if GREATEST_DEPTH < depth {
-        return end_depth(r, index_of(n));
+        return end_depth(r, index_of(size, negative));
     }
-    end_entry(r, n, cells(depth), table)
+    if cells(depth) <= place {
+        return wrong(r, NONE);
+    }
+    if put(table, place, size, negative) {
+        r.place = place + 1;
+        return r;
+    }
+    wrong(r, NONE)
+}
+
+// `:` after the place of the next entry.
+fn end_place(mut r: Reader) -> Reader {
+    let depth = r.depth;
+    if r.kind == b'@' || GREATEST_DEPTH < depth {
+        return wrong(r, depth);
+    }
+    r.place = index_of(r.size, r.negative);
+    r.size = EMPTY;
+    r.negative = false;
+    r
 }
 
 fn print_byte(b: u8) {
@@ -433,37 +414,67 @@ fn print_byte(b: u8) {
     io::write_all(STDOUT_FILENO, &text);
 }
 
-fn begin_line(mut r: Reader, b: u8, table: &mut [i64]) -> Reader
-    requires { ⌜ Entries (now table) ⌝ }
-    ensures { λ _. ⌜ Entries (now (table .exit)) ⌝ }
-{
-    r.kind = b;
-    if b == b'#' {
-        return r;
+// A line of which no more than its kind is known.
+fn line(kind: u8, depth: usize) -> Reader {
+    Reader {
+        kind: kind,
+        word: true,
+        size: EMPTY,
+        negative: false,
+        place: 0,
+        level: 0,
+        x: 0,
+        y: 0,
+        depth: depth,
     }
-    print_byte(b);
-    r.word = true;
-    r.number = no_number();
-    r.place = 0;
-    r.level = NONE;
-    r.x = NONE;
-    r.y = NONE;
-    if b != b'@' {
-        r.depth = NONE;
-        clear(table);
-    }
-    r
 }
 
-fn end_line(mut r: Reader, table: &mut [i64]) -> Reader
+// The first byte of a line: of a comment, of the word before a cell, or of a table's name, where the entries of the last one go.
+fn begin_line(b: u8, depth: usize, table: &mut [i64]) -> Reader
     requires { ⌜ Entries (now table) ⌝ }
     ensures { λ _. ⌜ Entries (now (table .exit)) ⌝ }
 {
-    if r.kind != START && r.kind != b'#' {
-        r = end_number(r, table);
-        show(table, r.kind, r.depth, r.level, r.x, r.y);
+    if b == b'#' {
+        return line(b, depth);
     }
-    r.kind = START;
+    print_byte(b);
+    if b == b'@' {
+        return line(b, depth);
+    }
+    clear(table);
+    line(b, NONE)
+}
+
+fn end_line(r: Reader, table: &mut [i64]) -> Reader
+    requires { ⌜ Entries (now table) ⌝ }
+    ensures { λ _. ⌜ Entries (now (table .exit)) ⌝ }
+{
+    let kind = r.kind;
+    if kind == START || kind == b'#' {
+        return line(START, r.depth);
+    }
+    let e = end_number(r, table);
+    show(table, e);
+    line(START, e.depth)
+}
+
+// A byte after the first word.
+fn read_item(mut r: Reader, b: u8, table: &mut [i64]) -> Reader
+    requires { ⌜ Entries (now table) ⌝ }
+    ensures { λ _. ⌜ Entries (now (table .exit)) ⌝ }
+{
+    if b == b' ' {
+        return end_number(r, table);
+    }
+    if b == b':' {
+        return end_place(r);
+    }
+    let size = r.size;
+    if b == b'-' && size == EMPTY && !r.negative {
+        r.negative = true;
+    } else {
+        r.size = longer(size, b);
+    }
     r
 }
 
@@ -471,46 +482,31 @@ fn read_byte(mut r: Reader, b: u8, table: &mut [i64]) -> Reader
     requires { ⌜ Entries (now table) ⌝ }
     ensures { λ _. ⌜ Entries (now (table .exit)) ⌝ }
 {
+    let kind = r.kind;
     if b == b'\n' {
         return end_line(r, table);
     }
-    if r.kind == START {
-        return begin_line(r, b, table);
+    if kind == START {
+        return begin_line(b, r.depth, table);
     }
-    if r.kind == b'#' || r.kind == WRONG {
+    if kind == b'#' || kind == WRONG {
         return r;
     }
-    if r.word {
-        if b == b' ' {
-            r.word = false;
-        } else {
-            print_byte(b);
-        }
-        return r;
+    if !r.word {
+        return read_item(r, b, table);
     }
     if b == b' ' {
-        return end_number(r, table);
+        r.word = false;
+    } else {
+        print_byte(b);
     }
-    if b == b':' {
-        return end_place(r);
-    }
-    r.number = read_number(r.number, b);
     r
 }
 
 fn read_all(text: &[u8], table: &mut [i64])
     requires { ⌜ Entries (now table) ⌝ }
 {
-    let mut r = Reader {
-        kind: START,
-        word: false,
-        number: no_number(),
-        place: 0,
-        level: NONE,
-        x: NONE,
-        y: NONE,
-        depth: NONE,
-    };
+    let mut r = line(START, NONE);
     for i in 0..text.len() {
         r = read_byte(r, text[i], table);
     }

@@ -1,4 +1,4 @@
--- A number held between two bounds, and the laws of `clamp v 0 m` that the edge integrals need: how far v lies past a cell's side, held to its width.
+-- A number held between two bounds. The edge integrals hold how far x lies past a cell's side to the cell's width; greys are held to a byte.
 --
 -- Main results
 --   clamp-low, clamp-high                           it lies between its bounds

@@ -19,14 +19,15 @@ pub mod Tour
 pub mod Magnitude
 pub mod Within
 pub mod MinMax
--- the machine's numbers with a bound: their bits, and through the operations
+-- the machine's numbers with a bound: their bits, and what operations make of them
 pub mod Bits
 pub mod Held
 -- how far past a side, and how far from the nearer side
 pub mod Clamp
 pub mod Tent
-pub mod HalfSign
 pub mod Interpolation
+-- plus in the first half, minus in the second
+pub mod HalfSign
 -- sums over a range, the trapezoid sum, sums over a list
 pub mod RangeSum
 pub mod Trapezoid

@@ -9,13 +9,16 @@
 --   Σ-split, Σ-first                   the first p terms, and the rest; the first term, and the rest
 --   Σ-rows, Σ-power                    m rows of n terms, row by row; m ^ n rows of m
 --   Σ-swap                             two sums, in the other order
+--   Σ-one                              where all terms but one are 0, the sum is that one
 --   Σ-within                           n terms within b add up to within n times b
 use mathlib.Core.Path.{_≡_, refl, sym, _∙_, ap, ap₂}
 use mathlib.Core.List.{[], _∷_}
+use mathlib.Core.Logic.{_≢_}
 use Prim.Native.Nat.{ℕ, zero, suc, _+_, _*_, _^_, _<_}
 use native.Mathlib.Nat.{add-suc, add-zero, zero-mul, suc-mul, pow-suc}
 use native.Mathlib.Omega.{arith}
-use lib.IntN.{ℤ, pos, negℤ, _+ℤ_, _-ℤ_, _*ℤ_, *ℤ-zero}
+use native.Mathlib.Decide.{ℕ-discrete}
+use lib.IntN.{ℤ, pos, negℤ, _+ℤ_, _-ℤ_, _*ℤ_, *ℤ-zero, +ℤ-idl, +ℤ-idr}
 use lib.Signed.{≤ℤ-refl}
 use Rattle.integers.specs.Ring.{read, ring, comb}
 use Rattle.integers.specs.Within.{Within, within-is, within-add, within-self}
@@ -86,6 +89,18 @@ pub Σ-swap : (m n : ℕ) (f : ℕ → ℕ → ℤ) → Σ< m (λ s. Σ< n (f s)
 unfolding Σ<
 Σ-swap zero n f = sym (Σ-const n (pos 0) ∙ *ℤ-zero (pos n))
 Σ-swap (suc m) n f = ap (λ z. z +ℤ Σ< n (f m)) (Σ-swap m n f) ∙ sym (Σ-add n (λ t. Σ< m (λ s. f s t)) (f m))
+
+pub Σ-one : (n : ℕ) (f : ℕ → ℤ) (k : ℕ) → k < n → ((i : ℕ) → i < n → i ≢ k → f i ≡ pos 0) → Σ< n f ≡ f k
+unfolding Σ<
+Σ-one zero f k h z = absurd (omega arith)
+Σ-one (suc n) f k h z = go (λ l. Σ-one n f k l (λ i g. z i (omega arith))) (ℕ-discrete n k)
+  where
+    none : n ≡ k → Σ< n f ≡ pos 0
+    none e = Σ-cong n f (λ i. pos 0) (λ i l. z i (omega arith) (omega arith)) ∙ Σ-const n (pos 0) ∙ *ℤ-zero (pos n)
+
+    go : (k < n → Σ< n f ≡ f k) → Dec (n ≡ k) → Σ< n f +ℤ f n ≡ f k
+    go others (yes e) = ap₂ _+ℤ_ (none e) (ap f e) ∙ +ℤ-idl (f k)
+    go others (no e) = ap₂ _+ℤ_ (others (omega arith)) (z n (omega arith) e) ∙ +ℤ-idr (f k)
 
 pub Σ-within : {b : ℤ} (n : ℕ) (f : ℕ → ℤ) → ((k : ℕ) → k < n → Within b (f k)) → Within (pos n *ℤ b) (Σ< n f)
 unfolding Σ<

@@ -72,7 +72,7 @@ numerator-is = refl
 abbrev pub entryLimit : ℕ
 entryLimit = 2 ^ 40
 
--- A figure is at most as many entries as its level has cells.
+-- A figure is at most as many times an entry as its level has cells.
 abbrev pub figureLimit : ℕ
 figureLimit = greatestSide * greatestSide * entryLimit
 

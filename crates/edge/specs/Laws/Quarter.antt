@@ -2,7 +2,7 @@
 -- term of its two end points.
 --
 -- Main results
---   quarter                 quarter (i, j) of a cell; a detail has the sign `halfSign i` or `halfSign j` there
+--   quarter                 quarter (i, j) of a cell; h has the sign `halfSign i` there, v `halfSign j`, d their product
 --   boundary                the term of an end point
 --   edge-quarter            4 × area in quarter (i, j) = area ± h ± (v and the end points' terms) ± d, for the four quarters at once
 use mathlib.Core.Path.{_≡_, sym, _∙_, ap, ap₂}

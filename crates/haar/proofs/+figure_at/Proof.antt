@@ -25,7 +25,7 @@ figure-at-at t = and 1 figure-at-kinds.ps (is 1 figure-at-kinds.ps μ-figure-at 
 abbrev figure-at-below : ℕ → In 1 figure-at-kinds.ps
 figure-at-below t = and 1 figure-at-kinds.ps (falls 1 figure-at-kinds.ps _<_ μ-figure-at t) figure-at.Pre
 
--- where it is not the root, a level is the one below the level that is asked for
+-- a level that is not 0 is the next one after another
 above : (level : ℕ) → level ≢ 0 → level ≡ suc (level - 1)
 above level h = omega arith
 

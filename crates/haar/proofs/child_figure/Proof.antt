@@ -5,7 +5,7 @@ use native.Mathlib.Omega.{arith}
 use mir.Facts.{toZ-ofZ}
 use Rattle.integers.specs.Bits.{field-is}
 use Rattle.haar.specs.Plane.{figureIn}
-use Rattle.haar.specs.Code.{Refinable}
+use Rattle.haar.specs.Pairs.{Refinable}
 use Rattle.haar.proofs.child_figure.Statement.{statement}
 use Rattle.haar.proofs.child_figure.Tie as tie
 

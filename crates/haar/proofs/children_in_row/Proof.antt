@@ -10,7 +10,7 @@ use Rattle.integers.specs.Within.{Within, within-is, within-sign}
 use Rattle.integers.specs.HalfSign.{halfSign-cases}
 use Rattle.integers.specs.Bits.{back, back-is}
 use Rattle.integers.specs.Held.{held-number, held-within}
-use Rattle.haar.specs.Code.{scaleLimit, IsPair}
+use Rattle.haar.specs.Pairs.{scaleLimit, IsPair}
 use Rattle.haar.proofs.CellDetails.{CellDetails, cell-details, detail-is, half-row, parent-within, scale-within, pair-is}
 use Rattle.haar.proofs.children_in_row.Statement.{statement}
 use Rattle.haar.proofs.children_in_row.Tie as tie

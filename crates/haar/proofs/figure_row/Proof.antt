@@ -7,7 +7,7 @@ use lib.ListN.{length, getD, set, length-set}
 use lib.Pow.{pow-pos}
 use lib.IntN.{ℤ, pos}
 use Rattle.integers.specs.Bits.{back}
-use Rattle.haar.specs.Code.{DrawableRow}
+use Rattle.haar.specs.Rows.{DrawableRow}
 use Rattle.haar.proofs.Above.{root-inside, root-is}
 use Rattle.haar.proofs.Descent.{Descent, descent-start, descent-asks, descent-step, descent-end}
 use Rattle.haar.proofs.figure_row.Statement.{statement}

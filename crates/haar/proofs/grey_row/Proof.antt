@@ -10,7 +10,7 @@ use borrow.Author.Needs.{needs}
 use Rattle.integers.specs.Units.{greatestSide}
 use Rattle.haar.specs.Greys.{greyOf}
 use Rattle.haar.specs.Plane.{figureIn}
-use Rattle.haar.specs.Code.{overwrite}
+use Rattle.haar.specs.Rows.{overwrite}
 use Rattle.haar.proofs.Overwrite.{overwrite-length, overwrite-entry, overwrite-cong}
 use Rattle.haar.proofs.grey_row.Statement.{statement}
 use Rattle.haar.proofs.grey_row.Tie as tie

@@ -6,7 +6,7 @@ use lib.ListN.{length}
 use lib.Seq.{lt-length-set}
 use Rattle.integers.specs.Units.{greatestSide}
 use Rattle.integers.specs.Bits.{back-is, field-is}
-use Rattle.haar.specs.Code.{Refinable}
+use Rattle.haar.specs.Pairs.{Refinable}
 use Rattle.haar.proofs.CellDetails.{parent-within}
 use Rattle.haar.proofs.Refining.{Refining, refining-room, refining-few, refining-start, refining-cell, refining-step, refining-end}
 use Rattle.haar.proofs.refine_row.Statement.{statement}

@@ -9,7 +9,7 @@ use Rattle.integers.specs.Ring.{read, ring}
 use Rattle.integers.specs.HalfSign.{halfSign}
 use Rattle.integers.specs.Bits.{back}
 use Rattle.integers.specs.Held.{Held, held-number, held-neg, held-fits, held-back}
-use Rattle.haar.specs.Code.{scaleLimit}
+use Rattle.haar.specs.Pairs.{scaleLimit}
 use Rattle.haar.proofs.turned_scale.Statement.{statement}
 use Rattle.haar.proofs.turned_scale.Tie as tie
 

@@ -3,7 +3,7 @@
 -- Main results
 --   Σcells n m f                 the sum of f over all cells below m in each direction
 --   Σcells-scale                 a factor comes out
---   Σcells-one                   where there is one cell, the sum is its term
+--   Σcells-one                   where there is one cell, a constant adds up to itself
 --   Σ-places                     the same sum, place by place
 --   cells-by-children            with twice as many cells in each direction, the same sum by children of the cells
 use mathlib.Core.Path.{_≡_, refl, sym, _∙_, ap, ap₂, fun-ext}

@@ -5,8 +5,8 @@
 --   childNumber-lt, below-parent                         a cell of a level is one of `children n` children of a cell one level up
 --   rowMajor-lt, below-cellAt                            a cell's place is one of the level's, and a place's cell one of its cells
 --   cellAt-rowMajor, rowMajor-cellAt                     each cell has one place, and each place one cell
---   level-cells, level-square                            a level has as many cells as it has in each direction, to the power n
---   next-level                                           and the next has as many more as these have details
+--   level-cells, level-square                            how many cells a level has: 2^level in each direction
+--   next-level                                           the next level has as many cells as this one has cells and details
 use mathlib.Core.Path.{_≡_, refl, sym, _∙_, ap, ap₂}
 use Prim.Native.Nat.{ℕ, zero, suc, _+_, _*_, _/_, _%_, _^_, _<_}
 use native.Mathlib.Omega.{arith}

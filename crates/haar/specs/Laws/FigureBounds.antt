@@ -1,12 +1,12 @@
--- How large a figure is, either way: it is a sum over the levels above it, and so is its bound. With `figure-linear`, a bound of how far two tables are
--- apart is one of how far their figures are.
+-- How large a figure is, either way. It is a sum over the cells in which its cell lies, and so is its bound. With `figure-linear`, a bound of how
+-- far two tables are apart gives one of how far their figures are. A cell has B children.
 --
 -- Main results
---   bound n r b level cell       what bounds a figure, where r bounds the root and b the details of each cell in which it lies
---   Bounded n depth r b t        they do, down to the depth
---   figure-within                and so the figure is within its bound
---   bound-const                  where b is k throughout: B^level k, but for the root's k − r
---   stored-bounded               a list of entries within k is such a table
+--   bound n r b level cell       a bound of the figure, from a bound r of the root and a bound b of each cell's details
+--   Bounded n depth r b t        r and b bound the table t, down to the depth
+--   figure-within                and so its figures are within their bounds
+--   bound-const                  where b is k throughout, the bound is B^level k − k + r
+--   stored-bounded               a list of entries within k is bounded by k throughout
 use mathlib.Core.Path.{_≡_, refl, sym, ap, subst}
 use mathlib.Core.List.{List, [], _∷_}
 use Prim.Native.Nat.{ℕ, zero, suc, _+_, _*_, _^_, _<_, _≤_}

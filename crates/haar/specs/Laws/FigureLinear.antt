@@ -1,4 +1,4 @@
--- Figures are linear in the table: those of a t + b u are a times those of t, and b times those of u.
+-- Figures are linear in the table: those of a t + b u are a times those of t plus b times those of u.
 -- Sums, differences, multiples and the negative of tables are cases of it.
 --
 -- Main results

@@ -1,8 +1,8 @@
 -- Figures: from a cell to its children, and the coefficients that a figure depends on.
 --
 -- Main results
---   figure-root, figure-next     the root's figure, and a cell's from its parent's: the definition's two clauses, which every other law goes by
---   figure-child                 a child's figure is its parent's, and B^j times the details with the child's signs
+--   figure-root, figure-next     the definition's two clauses, which every other law goes by
+--   figure-child                 a child's figure is its parent's plus the scaled details with the child's signs
 --   SameBelow n depth t u        two tables have the same root, and the same details at every level below the depth
 --   figure-same                  they have the same figures, down to the depth
 use mathlib.Core.Path.{_≡_, refl, sym, _∙_, ap, ap₂, subst}

@@ -1,4 +1,4 @@
--- Greys are bytes, rise with the fraction, and move by at most one where it moves by less than a grey. Sides and denominators are above 0.
+-- Greys are bytes, rise with the fraction, and move by at most one where it moves by at most a grey. Sides and denominators are above 0.
 --
 -- Main results
 --   full-pos                     a tile's full figure is above 0

@@ -5,29 +5,22 @@
 --   figure-top                   the whole tile's figure is the root
 --   quarterFigure                a quarter's figure from its cell's
 --   figure-quarter               every figure but the root's is such
---   figure-in-range              of a table whose entries are in question 9's range, no figure passes 4^level × 2^40
---   figure-limit                 and so none passes 2^52
-use mathlib.Core.Path.{_≡_, refl, _∙_, ap, ap₂}
-use mathlib.Core.List.{List, [], _∷_}
-use Prim.Native.Nat.{ℕ, suc, _*_, _/_, _%_, _^_, _<_, _≤_}
+use mathlib.Core.Path.{_≡_, _∙_, ap, ap₂}
+use mathlib.Core.List.{[], _∷_}
+use Prim.Native.Nat.{ℕ, suc, _*_, _/_, _%_, _^_, _<_}
 use native.Mathlib.Omega.{arith}
-use native.Mathlib.Nat.{mod-mod, mul-le-mul-right, pow-le-pow-right}
+use native.Mathlib.Nat.{mod-mod}
 use lib.IntN.{ℤ, pos, _+ℤ_, _*ℤ_}
 use Rattle.integers.specs.Ring.{read, ring, comb, _⊕_, _⊗_}
-use Rattle.integers.specs.Order.{pos-≤ℤ}
 use Rattle.integers.specs.RangeSum.{Σ<}
 use Rattle.integers.specs.HalfSign.{halfSign}
-use Rattle.integers.specs.Within.{Within, within-is, within-le}
-use Rattle.integers.specs.Units.{greatestDepth, entryLimit, figureLimit}
 use Rattle.haar.specs.Signs.{sign}
 use Rattle.haar.specs.Cells.{children, parent, childNumber}
 use Rattle.haar.specs.Table.{Coefficients}
 use Rattle.haar.specs.Figures.{signedDetails}
-use Rattle.haar.specs.Plane.{dimensions, hDetail, vDetail, dDetail, at, figureAt, figureIn}
-use Rattle.haar.specs.Drawable.{InRange}
+use Rattle.haar.specs.Plane.{dimensions, hDetail, vDetail, dDetail, at, figureAt}
 use Rattle.haar.specs.Laws.Signs.{sign-step, sign-plain}
 use Rattle.haar.specs.Laws.Figures.{figure-root, figure-next}
-use Rattle.haar.specs.Laws.FigureBounds.{bound, bound-const, figure-within, stored-bounded}
 
 pub figure-top : (t : Coefficients dimensions) (cx cy : ℕ) → figureAt t 0 cx cy ≡ t .root
 figure-top t cx cy = figure-root dimensions t (at cx cy)
@@ -67,15 +60,3 @@ figure-quarter t j cx cy =
     figure-next dimensions t j (at cx cy)
     ∙ ap (λ z. figureAt t j (cx / 2) (cy / 2) +ℤ pos (4 ^ j) *ℤ z)
     (signs w c ∙ ap₂ (λ a b. halfSign a *ℤ w hDetail +ℤ halfSign b *ℤ w vDetail +ℤ halfSign a *ℤ halfSign b *ℤ w dDetail) x y)
-
--- question 9 is what keeps figures in 64 bits
-module _ {entries : List ℤ} (r : InRange entries) (level : ℕ) where
-  pub figure-in-range : (cx cy : ℕ) → cx < 2 ^ level → cy < 2 ^ level → Within (pos (children dimensions ^ level * entryLimit)) (figureIn entries level cx cy)
-  figure-in-range cx cy x y =
-      let k = entryLimit in
-      let e : bound dimensions k (λ j cell. k) level (at cx cy) ≡ children dimensions ^ level * k = omega (arith, bound-const dimensions k k level (at cx cy)) in
-      within-is (ap pos e) refl (figure-within (stored-bounded dimensions level k entries (r .each)) level (omega arith) (at cx cy) (x, (y, tt)))
-
-  pub figure-limit : level ≤ greatestDepth → (cx cy : ℕ) → cx < 2 ^ level → cy < 2 ^ level → Within (pos figureLimit) (figureIn entries level cx cy)
-  figure-limit h cx cy x y =
-      within-le (pos-≤ℤ (mul-le-mul-right entryLimit (pow-le-pow-right {n = children dimensions} (omega arith) h))) (figure-in-range cx cy x y)

@@ -7,6 +7,7 @@
 --   signs-orthogonal             two different rows are orthogonal: their products add up to 0
 --   sign-row-sum                 each row but the plain one adds up to 0
 --   signs-self                   the squares of a row add up to the number of children
+--   sign-comm                    rows and columns are alike
 use mathlib.Core.Path.{_≡_, refl, _∙_, ap, ap₂, fun-ext}
 use mathlib.Core.List.{[], _∷_}
 use mathlib.Core.Logic.{_⊎_, inl, inr, _≢_}
@@ -16,7 +17,7 @@ use native.Mathlib.Nat.{zero-add, pow-suc}
 use native.Mathlib.Numerals.{one-add}
 use native.Mathlib.Decide.{ℕ-discrete}
 use lib.IntN.{ℤ, pos, negsuc, negℤ, _+ℤ_, _*ℤ_, zero-*ℤ, *ℤ-zero}
-use lib.Bits.{bitAnd, and-step}
+use lib.Bits.{bitAnd, and-step, and-comm}
 use lib.Count.{ones, ones-step}
 use Rattle.integers.specs.Ring.{read, ring, comb, _⊗_}
 use Rattle.integers.specs.HalfSign.{halfSign}
@@ -68,6 +69,10 @@ alternate-cases (suc n) = turn (alternate-cases n)
 pub sign-cases : (e c : ℕ) → (sign e c ≡ pos 1) ⊎ (sign e c ≡ negsuc 0)
 unfolding sign
 sign-cases e c = alternate-cases (ones (bitAnd e c))
+
+pub sign-comm : (e c : ℕ) → sign e c ≡ sign c e
+unfolding sign
+sign-comm e c = ap (λ k. alternate (ones k)) (and-comm e c)
 
 -- ---- rows
 -- Two rows' product in the first half of a direction and that in the second, added: a and b are 1 where the row turns in the second half, else 0.

@@ -1,7 +1,7 @@
 -- A list of entries is known by its coefficients.
 --
 -- Main results
---   stored-unique                two lists of B^depth entries with the same root and details are the same
+--   stored-unique                two lists, each as long as a table of the depth, with the same root and details are the same
 use mathlib.Core.Path.{_≡_, sym, _∙_, ap}
 use mathlib.Core.List.{List}
 use Prim.Native.Nat.{ℕ, zero, suc, _^_, _<_}

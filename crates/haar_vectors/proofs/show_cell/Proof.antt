@@ -7,8 +7,8 @@ use Rattle.haar_vectors.proofs.show_cell.Tie as tie
 figure-at-requires : tie.Need-figure-at-requires
 figure-at-requires c κs = record {
   drawable = entries-drawable (c .before .before .before .before .pre .0) (search needs);
-  x = search needs;
-  y = search needs;
+  x-below = search needs;
+  y-below = search needs;
 }
 
 pub show-cell-spec : {M : Type 1} → statement M

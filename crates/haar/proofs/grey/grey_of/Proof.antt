@@ -1,4 +1,4 @@
--- `haar::grey_of` meets its contract. The full figure is a power of two, at most 2^29, so the shift to the left loses nothing and the sum fits.
+-- `haar::grey::grey_of` meets its contract. The full figure is a power of two, at most 2^29, so the shift to the left loses nothing and the sum fits.
 use mathlib.Core.Path.{_≡_, sym, _∙_, ap, subst, subst⁻¹}
 use Prim.Native.Nat.{_^_, _≤_}
 use native.Mathlib.Omega.{arith}
