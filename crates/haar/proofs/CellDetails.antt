@@ -19,10 +19,10 @@ use Rattle.integers.specs.Order.{pos-≤ℤ, nonneg}
 use Rattle.integers.specs.Within.{Within, within-is, within-le, within-self}
 use Rattle.integers.specs.HalfSign.{halfSign}
 use Rattle.haar.specs.Cells.{children}
-use Rattle.haar.specs.Table.{place, stored}
+use Rattle.haar.specs.Table.{index, stored}
 use Rattle.haar.specs.Plane.{dimensions, hDetail, vDetail, dDetail, at, figureAt, figureIn}
 use Rattle.haar.specs.Pairs.{Refinable, scaleLimit, parentLimit, pairOf, IsPair}
-use Rattle.haar.specs.Laws.Layout.{place-plane, place-high}
+use Rattle.haar.specs.Laws.Layout.{index-plane, index-high}
 use Rattle.haar.specs.Laws.Quarters.{quarterFigure, figure-quarter}
 use Rattle.haar.specs.Laws.FigureLimit.{figure-in-range}
 
@@ -38,10 +38,10 @@ module _ {entries : List ℤ} {level x cy : ℕ} {f : ℤ} (r : Refinable entrie
   pub half-row : cy / 2 < 2 ^ level
   half-row = omega (arith, pow-succ' 2 level, r .y-below)
 
-  pub cell-details : {first : ℕ} → first ≡ place dimensions level (at x (cy / 2)) hDetail → CellDetails entries first
+  pub cell-details : {first : ℕ} → first ≡ index dimensions level (at x (cy / 2)) hDetail → CellDetails entries first
   cell-details {first} e =
-      let last = place-high {n = dimensions} {j = level} {cell = at x (cy / 2)} {e = dDetail} (record { inside = (r .x-below, (half-row, tt)); first = omega arith; last = omega arith }) in
-      let b : first + 2 < children dimensions ^ suc level = omega (arith, e, place-plane level x (cy / 2) hDetail, place-plane level x (cy / 2) dDetail) in
+      let last = index-high {n = dimensions} {j = level} {cell = at x (cy / 2)} {e = dDetail} (record { inside = (r .x-below, (half-row, tt)); first = omega arith; last = omega arith }) in
+      let b : first + 2 < children dimensions ^ suc level = omega (arith, e, index-plane level x (cy / 2) hDetail, index-plane level x (cy / 2) dDetail) in
       record {
         inside = let h = r .drawable .long in omega arith;
         few = omega (arith, pow-le-pow-right {n = children dimensions} (omega arith) (r .drawable .shallow));
@@ -57,9 +57,9 @@ module _ {entries : List ℤ} {level x cy : ℕ} {f : ℤ} (r : Refinable entrie
   scale-within e = within-is refl (sym e) (within-le (pos-≤ℤ scale-few) (within-self (nonneg _)))
 
 -- detail k + 1 is the kth after the first
-pub detail-is : (entries : List ℤ) (level x y k : ℕ) {first i : ℕ} → first ≡ place dimensions level (at x y) hDetail → i ≡ first + k
+pub detail-is : (entries : List ℤ) (level x y k : ℕ) {first i : ℕ} → first ≡ index dimensions level (at x y) hDetail → i ≡ first + k
     → getD entries i (pos 0) ≡ stored dimensions entries .detail level (at x y) (suc k)
-detail-is entries level x y k e g = ap (λ i. getD entries i (pos 0)) (omega (arith, e, place-plane level x y hDetail, place-plane level x y (suc k)))
+detail-is entries level x y k e g = ap (λ i. getD entries i (pos 0)) (omega (arith, e, index-plane level x y hDetail, index-plane level x y (suc k)))
 
 -- a child in half b of x
 child-in-half : (entries : List ℤ) (level x cy b : ℕ) → b < 2

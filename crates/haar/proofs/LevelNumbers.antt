@@ -2,7 +2,7 @@
 --
 -- Main results
 --   LevelNumbers, level-numbers       the cells across, and their square
---   place-few                         a row and a column, as a place
+--   index-few                         a row and a column, as a place
 use mathlib.Core.Path.{_≡_, _∙_, ap₂}
 use Prim.Native.Nat.{ℕ, _+_, _*_, _-_, _^_, _<_, _≤_}
 use native.Mathlib.Omega.{arith}
@@ -24,5 +24,5 @@ level-numbers {level} {n} h e =
     let g : n ≤ 2 ^ (greatestDepth - 1) = omega (arith, pow-mono {i = level} {j = greatestDepth - 1} (omega arith)) in
     record { across = g; square = ap₂ _*_ e e ∙ level-square level; few = mul-le-mul g g }
 
-pub place-few : {n x y : ℕ} → x < n → y < n → y * n + x < n * n
-place-few {n} h k = omega (arith, mul-le-mul-right n k)
+pub index-few : {n x y : ℕ} → x < n → y < n → y * n + x < n * n
+index-few {n} h k = omega (arith, mul-le-mul-right n k)

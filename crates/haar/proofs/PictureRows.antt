@@ -3,8 +3,8 @@
 -- Main results
 --   PictureRows                                    the first rows are drawn
 --   rows-start, rows-step, rows-end                none, one more, all: the picture
---   RowPlace, row-place                            where the next row stands
---   row-asks                                       and what it asks for
+--   RowBounds, row-bounds                            where the next row stands
+--   row-room                                       and that it has room there
 use mathlib.Core.Path.{_≡_, sym, _∙_, ap, subst}
 use mathlib.Core.List.{List, _++_}
 use Prim.Native.Nat.{ℕ, _+_, _*_, _-_, _^_, _<_, _≤_}
@@ -20,7 +20,7 @@ use Rattle.integers.specs.Units.{greatestSide}
 use Rattle.haar.specs.Table.{stored}
 use Rattle.haar.specs.Plane.{dimensions, figureIn, pictureIn}
 use Rattle.haar.specs.Drawable.{DrawablePicture}
-use Rattle.haar.specs.Rows.{rowOver, DrawableRow}
+use Rattle.haar.specs.Rows.{rowOver}
 use Rattle.haar.specs.Laws.Cells.{level-square}
 use Rattle.haar.specs.Laws.Pictures.{picture-of-entries}
 use Rattle.haar.proofs.Overwrite.{overwrite-length, overwrite-entry}
@@ -31,32 +31,27 @@ module _ {A : Type 0} (g : ℤ → A) (o : A) (entries : List ℤ) (level room n
     pub entry : (x y : ℕ) → x < n → y < rows → getD l (y * n + x) o ≡ g (figureIn entries level x y)
 
 -- the n places of row y, from y × n on
-pub record RowPlace (n room y : ℕ) : Type 0 where
+pub record RowBounds (n room y : ℕ) : Type 0 where
   pub inside : y * n + n ≤ room
   pub few : room ≤ greatestSide * greatestSide
 
 module _ {entries : List ℤ} {level room n : ℕ} (d : DrawablePicture entries level room) (e : n ≡ 2 ^ level) where
-  pub row-place : {y : ℕ} → y < n → RowPlace n room y
-  row-place {y} h =
+  pub row-bounds : {y : ℕ} → y < n → RowBounds n room y
+  row-bounds {y} h =
       let s : n * n ≡ room = ap (λ m. m * m) e ∙ level-square level ∙ sym (d .exact) in
       let m : n ≤ greatestSide = omega (arith, pow-mono (d .drawable .shallow)) in
       record { inside = omega (arith, mul-le-mul-right n h); few = omega (arith, mul-le-mul m m) }
 
-  -- what is lent of the picture for row y
+  -- how much of the picture is given for row y: what is left of it, and so at least the row
   part-length : {A : Type 0} (l : List A) {y : ℕ} → length l ≡ room → y < n → length (take (length l - y * n) (drop (y * n) l)) ≡ room - y * n
   part-length l {y} q h =
-      let p = row-place h in
+      let p = row-bounds h in
       length-take-le (length l - y * n) (drop (y * n) l) (omega (arith, length-drop (y * n) l)) ∙ omega arith
 
-  module _ {A : Type 0} {g : ℤ → A} {o : A} where
-    pub row-asks : {l : List A} {y : ℕ} → PictureRows g o entries level room n l y → y < n
-        → DrawableRow entries level y (length (take (length l - y * n) (drop (y * n) l)))
-    row-asks {l} {y} r h = record {
-      drawable = d .drawable;
-      y-below = omega arith;
-      enough = omega (arith, row-place h .inside, part-length l (r .same-length) h);
-    }
+  pub row-room : {A : Type 0} (l : List A) {y : ℕ} → length l ≡ room → y < n → 2 ^ level ≤ length (take (length l - y * n) (drop (y * n) l))
+  row-room l q h = omega (arith, row-bounds h .inside, part-length l q h)
 
+  module _ {A : Type 0} {g : ℤ → A} {o : A} where
     pub rows-step : {l part : List A} {y : ℕ} → PictureRows g o entries level room n l y → y < n
         → part ≡ rowOver g entries level y (take (length l - y * n) (drop (y * n) l))
         → PictureRows g o entries level room n (putMid (y * n) (length l - y * n) l part) (y + 1)
@@ -71,17 +66,17 @@ module _ {entries : List ℤ} {level room n : ℕ} (d : DrawablePicture entries 
         drawn : List A
         drawn = putMid a (length l - a) l part
 
-        lent : List A
-        lent = take (length l - y * n) (drop (y * n) l)
+        remaining : List A
+        remaining = take (length l - y * n) (drop (y * n) l)
 
-        lent-enough : 2 ^ level ≤ length lent
-        lent-enough = omega (arith, part-length l (r .same-length) h, row-place h .inside)
+        remaining-room : 2 ^ level ≤ length remaining
+        remaining-room = row-room l (r .same-length) h
 
-        part-same : length part ≡ length lent
-        part-same = ap length w ∙ overwrite-length (2 ^ level) (λ x. g (figureIn entries level x y)) lent lent-enough
+        part-same : length part ≡ length remaining
+        part-same = ap length w ∙ overwrite-length (2 ^ level) (λ x. g (figureIn entries level x y)) remaining remaining-room
 
         head : length (take a l) ≡ a
-        head = length-take-le a l (omega (arith, row-place h .inside, r .same-length))
+        head = length-take-le a l (omega (arith, row-bounds h .inside, r .same-length))
 
         earlier : (x i : ℕ) → x < n → i < y → getD drawn (i * n + x) o ≡ g (figureIn entries level x i)
         earlier x i p k =
@@ -91,8 +86,8 @@ module _ {entries : List ℤ} {level room n : ℕ} (d : DrawablePicture entries 
         this : (x : ℕ) → x < n → getD drawn (a + x) o ≡ g (figureIn entries level x y)
         this x p =
             ap (λ k. getD drawn (k + x) o) (sym head) ∙ getD-append-add (take a l) (part ++ postOf a (length l - a) l) x o
-            ∙ List·getD-append part (postOf a (length l - a) l) o x (omega (arith, part-same, lent-enough))
-            ∙ ap (λ k. getD k x o) w ∙ overwrite-entry o (2 ^ level) (λ x. g (figureIn entries level x y)) lent x (omega arith)
+            ∙ List·getD-append part (postOf a (length l - a) l) o x (omega (arith, part-same, remaining-room))
+            ∙ ap (λ k. getD k x o) w ∙ overwrite-entry o (2 ^ level) (λ x. g (figureIn entries level x y)) remaining x (omega arith)
 
     pub rows-start : {l : List A} → length l ≡ room → PictureRows g o entries level room n l 0
     rows-start q = record { same-length = q; entry = λ x y h k. absurd (omega arith) }

@@ -2,7 +2,7 @@
 --
 -- Definitions
 --   Coefficients n               a root, and detail e of each cell of each level
---   place n j cell e             where detail e of a cell of level j stands
+--   index n j cell e             where detail e of a cell of level j stands in the list
 --   stored n entries             the coefficients that a list of entries holds
 use mathlib.Core.List.{List}
 use Prim.Native.Nat.{ℕ, _+_, _*_, _-_, _^_}
@@ -16,12 +16,12 @@ pub record Coefficients (n : ℕ) : Type 0 where
   pub detail : ℕ → Cell n → ℕ → ℤ
 
 -- "Cell (cx, cy) of level j below the depth has three entries from 4^j + 3 × (cy × 2^j + cx) on": details 1, 2, 3, one after the other
-unfoldable pub place : (n j : ℕ) → Cell n → ℕ → ℕ
-place n j cell e = children n ^ j + details n * rowMajor n (2 ^ j) cell + (e - 1)
+unfoldable pub index : (n j : ℕ) → Cell n → ℕ → ℕ
+index n j cell e = children n ^ j + details n * rowMajor n (2 ^ j) cell + (e - 1)
 
 -- "Entry 0 is the root"
 abbrev pub stored : (n : ℕ) → List ℤ → Coefficients n
 stored n entries = record {
   root = getD entries 0 (pos 0);
-  detail = λ j cell e. getD entries (place n j cell e) (pos 0);
+  detail = λ j cell e. getD entries (index n j cell e) (pos 0);
 }

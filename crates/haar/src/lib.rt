@@ -25,7 +25,7 @@ ghost use Rattle.integers.specs.Units.{greatestDepth, greatestSide};
 ghost use Rattle.integers.specs.Within.{Within};
 ghost use Rattle.integers.specs.HalfSign.{halfSign};
 ghost use Rattle.haar.specs.Cells.{children};
-ghost use Rattle.haar.specs.Table.{place};
+ghost use Rattle.haar.specs.Table.{index};
 ghost use Rattle.haar.specs.Greys.{greyOf};
 ghost use Rattle.haar.specs.Plane.{dimensions, hDetail, at, figureIn, pictureIn};
 ghost use Rattle.haar.specs.Drawable.{DrawableCell, DrawablePicture};
@@ -66,7 +66,7 @@ fn scale_of(level: usize) -> i64
 // Where the details of cell (x, y) of a level begin.
 fn first_detail(level: usize, x: usize, y: usize) -> usize
     requires { ⌜ (level < greatestDepth) × (x < 2 ^ level) × (y < 2 ^ level) ⌝ }
-    ensures { λ r. ⌜ r ≡ place dimensions level (at x y) hDetail ⌝ }
+    ensures { λ r. ⌜ r ≡ index dimensions level (at x y) hDetail ⌝ }
 {
     let n = cells_across(level);
     n * n + DETAILS * (y * n + x)

@@ -76,17 +76,17 @@ fn entry_of(size: u64, negative: bool) -> i64
 }
 
 // Stores an entry, where it has a place and is in range.
-fn put(table: &mut [i64], place: usize, size: u64, negative: bool) -> bool
+fn put(table: &mut [i64], index: usize, size: u64, negative: bool) -> bool
     requires { ⌜ Entries (now table) ⌝ }
     ensures { λ _. ⌜ Entries (now (table .exit)) ⌝ }
 {
-    if table.len() <= place {
+    if table.len() <= index {
         return false;
     }
     if LIMIT < size {
         return false;
     }
-    table[place] = entry_of(size, negative);
+    table[index] = entry_of(size, negative);
     true
 }
 
@@ -273,7 +273,7 @@ fn show(table: &[i64], r: Reader)
         io::write_all(STDOUT_FILENO, b"\n");
         return show_table(table, depth);
     }
-    if r.place != 3 {
+    if r.next != 3 {
         return refuse();
     }
     show_cell(table, depth, r.level, r.x, r.y);
@@ -288,7 +288,7 @@ struct Reader {
     word: bool,
     size: u64,
     negative: bool,
-    place: usize,
+    next: usize,
     level: usize,
     x: usize,
     y: usize,
@@ -346,11 +346,11 @@ fn wrong(mut r: Reader, depth: usize) -> Reader {
 
 // One of the three numbers of a cell.
 fn end_index(mut r: Reader, i: usize) -> Reader {
-    let n = r.place;
+    let n = r.next;
     if 3 <= n {
         return wrong(r, r.depth);
     }
-    r.place = n + 1;
+    r.next = n + 1;
     r.level = r.x;
     r.x = r.y;
     r.y = i;
@@ -374,7 +374,7 @@ fn end_number(mut r: Reader, table: &mut [i64]) -> Reader
     let kind = r.kind;
     let size = r.size;
     let negative = r.negative;
-    let place = r.place;
+    let index = r.next;
     let depth = r.depth;
     r.size = EMPTY;
     r.negative = false;
@@ -387,23 +387,23 @@ fn end_number(mut r: Reader, table: &mut [i64]) -> Reader
     if GREATEST_DEPTH < depth {
         return end_depth(r, index_of(size, negative));
     }
-    if cells(depth) <= place {
+    if cells(depth) <= index {
         return wrong(r, NONE);
     }
-    if put(table, place, size, negative) {
-        r.place = place + 1;
+    if put(table, index, size, negative) {
+        r.next = index + 1;
         return r;
     }
     wrong(r, NONE)
 }
 
 // `:` after the place of the next entry.
-fn end_place(mut r: Reader) -> Reader {
+fn end_position(mut r: Reader) -> Reader {
     let depth = r.depth;
     if r.kind == b'@' || GREATEST_DEPTH < depth {
         return wrong(r, depth);
     }
-    r.place = index_of(r.size, r.negative);
+    r.next = index_of(r.size, r.negative);
     r.size = EMPTY;
     r.negative = false;
     r
@@ -421,7 +421,7 @@ fn line(kind: u8, depth: usize) -> Reader {
         word: true,
         size: EMPTY,
         negative: false,
-        place: 0,
+        next: 0,
         level: 0,
         x: 0,
         y: 0,
@@ -467,7 +467,7 @@ fn read_item(mut r: Reader, b: u8, table: &mut [i64]) -> Reader
         return end_number(r, table);
     }
     if b == b':' {
-        return end_place(r);
+        return end_position(r);
     }
     let size = r.size;
     if b == b'-' && size == EMPTY && !r.negative {

@@ -21,8 +21,8 @@ first-detail-requires c κs = let r = c .pre in let x = r .x-below in let y = ha
 scale-of-requires : tie.Need-scale-of-requires
 scale-of-requires c κs = omega (arith, c .before .pre .drawable .shallow)
 
-places : (c : tie.After-first-detail) → CellDetails (c .before .args .table .now) (c .first-detail .result)
-places c = cell-details (c .before .pre) (c .first-detail .ensures)
+three : (c : tie.After-first-detail) → CellDetails (c .before .args .table .now) (c .first-detail .result)
+three c = cell-details (c .before .pre) (c .first-detail .ensures)
 
 scale-back : (c : tie.After-scale-of) → Within (pos scaleLimit) (back (c .scale-of .result))
 scale-back c = held-within (held-number tt (scale-within (c .before .before .pre) (c .scale-of .ensures)))
@@ -36,28 +36,28 @@ turned-within c =
     (within-sign (halfSign-cases (c .before .before .before .args .cy % 2) (mod-lt _ (omega arith))) (scale-back (c .before)))
 
 mul-beside : tie.Need-mul-beside
-mul-beside c = let p = places (c .before .before) in record { fits = omega arith }
+mul-beside c = let p = three (c .before .before) in record { fits = omega arith }
 
 shared-slice-copy-out-beside : tie.Need-shared-slice-copy-out-beside
-shared-slice-copy-out-beside c = let p = places (c .before .before) in omega arith
+shared-slice-copy-out-beside c = let p = three (c .before .before) in omega arith
 
 add-beside : tie.Need-add-beside
-add-beside c = let p = places (c .before .before .before) in record { fits = omega arith }
+add-beside c = let p = three (c .before .before .before) in record { fits = omega arith }
 
 mul-beside-2 : tie.Need-mul-beside-2
-mul-beside-2 c = let p = places (c .before .before .before) in record { fits = omega arith }
+mul-beside-2 c = let p = three (c .before .before .before) in record { fits = omega arith }
 
 shared-slice-copy-out-beside-2 : tie.Need-shared-slice-copy-out-beside-2
-shared-slice-copy-out-beside-2 c = let p = places (c .before .before .before) in omega arith
+shared-slice-copy-out-beside-2 c = let p = three (c .before .before .before) in omega arith
 
 add-beside-2 : tie.Need-add-beside-2
-add-beside-2 c = let p = places (c .before .before .before .before) in record { fits = omega arith }
+add-beside-2 c = let p = three (c .before .before .before .before) in record { fits = omega arith }
 
 mul-beside-3 : tie.Need-mul-beside-3
-mul-beside-3 c = let p = places (c .before .before .before .before) in record { fits = omega arith }
+mul-beside-3 c = let p = three (c .before .before .before .before) in record { fits = omega arith }
 
 shared-slice-copy-out-beside-3 : tie.Need-shared-slice-copy-out-beside-3
-shared-slice-copy-out-beside-3 c = let p = places (c .before .before .before .before) in omega arith
+shared-slice-copy-out-beside-3 c = let p = three (c .before .before .before .before) in omega arith
 
 -- each detail, as it is read
 detail-within : (s : tie.Start) (i : ℕ) → Within (pos entryLimit) (getD (s .args .table .now) i (pos 0))

@@ -4,7 +4,7 @@ use Prim.Native.Nat.{_-_}
 use native.Mathlib.Omega.{arith}
 use lib.ListN.{length}
 use lib.IntN.{pos}
-use Rattle.haar.proofs.PictureRows.{PictureRows, RowPlace, row-place, row-asks, rows-start, rows-step, rows-end}
+use Rattle.haar.proofs.PictureRows.{PictureRows, RowBounds, row-bounds, row-room, rows-start, rows-step, rows-end}
 use Rattle.haar.proofs.figures.Statement.{statement}
 use Rattle.haar.proofs.figures.Tie as tie
 
@@ -28,17 +28,17 @@ module _ (i : tie.In-loop Inv-loop μ-loop) where
   abbrev start : tie.Start Inv-loop μ-loop
   start = across .before
 
-  place : RowPlace (across .cells-across .result) (length (start .args .picture .now)) (i .before .loop .y)
-  place = row-place (start .pre) (across .cells-across .ensures) (i .loop-test .taken)
+  bounds : RowBounds (across .cells-across .result) (length (start .args .picture .now)) (i .before .loop .y)
+  bounds = row-bounds (start .pre) (across .cells-across .ensures) (i .loop-test .taken)
 
 mul-figure-row : tie.Need-mul-figure-row Inv-loop μ-loop
-mul-figure-row c = let p = place c in record { fits = omega arith }
+mul-figure-row c = let p = bounds c in record { fits = omega arith }
 
 mul-figure-row-2 : tie.Need-mul-figure-row-2 Inv-loop μ-loop
-mul-figure-row-2 c = let p = place c in record { fits = omega arith }
+mul-figure-row-2 c = let p = bounds c in record { fits = omega arith }
 
 sub-figure-row : tie.Need-sub-figure-row Inv-loop μ-loop
-sub-figure-row c = let p = place c in omega (arith, c .before .loop .inv .same-length)
+sub-figure-row c = let p = bounds c in omega (arith, c .before .loop .inv .same-length)
 
 part-figure-row-start : tie.Need-part-figure-row-start Inv-loop μ-loop
 part-figure-row-start c = sub-figure-row c
@@ -49,10 +49,14 @@ part-figure-row-end c = omega arith
 figure-row-requires : tie.Need-figure-row-requires Inv-loop μ-loop
 figure-row-requires c κs =
     let i = c .before in
-    row-asks (start i .pre) (across i .cells-across .ensures) (i .before .loop .inv) (i .loop-test .taken)
+    record {
+      drawable = start i .pre .drawable;
+      y-below = omega (arith, i .loop-test .taken, across i .cells-across .ensures);
+      enough = row-room (start i .pre) (across i .cells-across .ensures) (i .before .loop .picture) (i .before .loop .inv .same-length) (i .loop-test .taken);
+    }
 
 add-y : tie.Need-add-y Inv-loop μ-loop
-add-y c = let i = c .before .before .before in let p = place i in record { fits = omega (arith, i .loop-test .taken) }
+add-y c = let i = c .before .before .before in let p = bounds i in record { fits = omega (arith, i .loop-test .taken) }
 
 loop-less : tie.Need-loop-less Inv-loop μ-loop
 loop-less c = omega (arith, c .before .before .before .loop-test .taken)

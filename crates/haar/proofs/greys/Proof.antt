@@ -4,7 +4,7 @@ use Prim.Native.Nat.{_-_, _^_}
 use native.Mathlib.Omega.{arith}
 use lib.ListN.{length}
 use Rattle.haar.specs.Greys.{greyOf}
-use Rattle.haar.proofs.PictureRows.{PictureRows, RowPlace, row-place, row-asks, rows-start, rows-step, rows-end}
+use Rattle.haar.proofs.PictureRows.{PictureRows, RowBounds, row-bounds, row-room, rows-start, rows-step, rows-end}
 use Rattle.haar.proofs.greys.Statement.{statement}
 use Rattle.haar.proofs.greys.Tie as tie
 
@@ -28,14 +28,14 @@ module _ (i : tie.In-loop Inv-loop μ-loop) where
   abbrev start : tie.Start Inv-loop μ-loop
   start = across .before .before
 
-  place : RowPlace (across .cells-across .result) (length (start .args .picture .now)) (i .before .loop .y)
-  place = row-place (start .pre .0) (across .cells-across .ensures) (i .loop-test .taken)
+  bounds : RowBounds (across .cells-across .result) (length (start .args .picture .now)) (i .before .loop .y)
+  bounds = row-bounds (start .pre .0) (across .cells-across .ensures) (i .loop-test .taken)
 
 mul-grey-row : tie.Need-mul-grey-row Inv-loop μ-loop
-mul-grey-row c = let p = place c in record { fits = omega arith }
+mul-grey-row c = let p = bounds c in record { fits = omega arith }
 
 sub-grey-row : tie.Need-sub-grey-row Inv-loop μ-loop
-sub-grey-row c = let p = place c in omega (arith, c .before .loop .inv .same-length)
+sub-grey-row c = let p = bounds c in omega (arith, c .before .loop .inv .same-length)
 
 part-grey-row-start : tie.Need-part-grey-row-start Inv-loop μ-loop
 part-grey-row-start c = sub-grey-row c
@@ -45,11 +45,17 @@ part-grey-row-end c = omega arith
 
 grey-row-requires : tie.Need-grey-row-requires Inv-loop μ-loop
 grey-row-requires c κs =
-    let i = c .before in
-    (row-asks (start i .pre .0) (across i .cells-across .ensures) (i .before .loop .inv) (i .loop-test .taken), start i .pre .1)
+    let i = c .before in (
+      record {
+        drawable = start i .pre .0 .drawable;
+        y-below = omega (arith, i .loop-test .taken, across i .cells-across .ensures);
+        enough = row-room (start i .pre .0) (across i .cells-across .ensures) (i .before .loop .picture) (i .before .loop .inv .same-length) (i .loop-test .taken);
+      },
+      start i .pre .1,
+    )
 
 add-y : tie.Need-add-y Inv-loop μ-loop
-add-y c = let i = c .before .before .before .before in let p = place i in record { fits = omega (arith, i .loop-test .taken) }
+add-y c = let i = c .before .before .before .before in let p = bounds i in record { fits = omega (arith, i .loop-test .taken) }
 
 loop-less : tie.Need-loop-less Inv-loop μ-loop
 loop-less c = omega (arith, c .before .before .before .before .loop-test .taken)

@@ -4,7 +4,7 @@
 --   Σcells n m f                 the sum of f over all cells below m in each direction
 --   Σcells-scale                 a factor comes out
 --   Σcells-one                   where there is one cell, a constant adds up to itself
---   Σ-places                     the same sum, place by place
+--   Σ-cellAt                     the same sum, place by place
 --   cells-by-children            with twice as many cells in each direction, the same sum by children of the cells
 use mathlib.Core.Path.{_≡_, refl, sym, _∙_, ap, ap₂, fun-ext}
 use Prim.Native.Nat.{ℕ, zero, suc, _+_, _*_, _/_, _%_, _^_, _<_}
@@ -38,10 +38,10 @@ cellAt-row n m {x} {y} h k =
     ap (λ r. cellAt (suc n) m (r * m + x)) (sym (rowMajor-cellAt n m y (omega arith) k))
     ∙ cellAt-rowMajor (suc n) m (x, cellAt n m y) (h, below-cellAt n m y (omega arith))
 
-pub Σ-places : (n m : ℕ) (f : Cell n → ℤ) → Σ< (m ^ n) (λ i. f (cellAt n m i)) ≡ Σcells n m f
+pub Σ-cellAt : (n m : ℕ) (f : Cell n → ℤ) → Σ< (m ^ n) (λ i. f (cellAt n m i)) ≡ Σcells n m f
 unfolding Σcells Σ< cellAt
-Σ-places zero m f = ap (λ k. Σ< k (λ i. f tt)) (pow-zero m) ∙ +ℤ-idl (f tt)
-Σ-places (suc n) m f = Σ-power m n (λ i. f (cellAt (suc n) m i)) ∙ Σ-cong (m ^ n) _ (λ y. row (cellAt n m y)) by-rows ∙ Σ-places n m row
+Σ-cellAt zero m f = ap (λ k. Σ< k (λ i. f tt)) (pow-zero m) ∙ +ℤ-idl (f tt)
+Σ-cellAt (suc n) m f = Σ-power m n (λ i. f (cellAt (suc n) m i)) ∙ Σ-cong (m ^ n) _ (λ y. row (cellAt n m y)) by-rows ∙ Σ-cellAt n m row
   where
     row : Cell n → ℤ
     row rest = Σ< m (λ x. f (x, rest))

@@ -19,7 +19,7 @@ use Rattle.integers.specs.RangeSum.{Σ-within}
 use Rattle.integers.specs.Within.{Within, within-is, within-add, within-scale, within-sign}
 use Rattle.haar.specs.Signs.{sign}
 use Rattle.haar.specs.Cells.{children, details, Cell, Below, parent, childNumber}
-use Rattle.haar.specs.Table.{Coefficients, place, stored}
+use Rattle.haar.specs.Table.{Coefficients, index, stored}
 use Rattle.haar.specs.Figures.{signedDetails, figure}
 use Rattle.haar.specs.Laws.Cells.{below-parent, next-level}
 use Rattle.haar.specs.Laws.Signs.{sign-cases}
@@ -60,4 +60,4 @@ bound-const n r k (suc j) cell = omega (arith, bound-const n r k j (parent n cel
 
 pub stored-bounded : (n depth k : ℕ) (entries : List ℤ) → ((i : ℕ) → Within (pos k) (getD entries i (pos 0)))
     → Bounded n depth k (λ j cell. k) (stored n entries)
-stored-bounded n depth k entries h = record { root-within = h 0; detail-within = λ j i cell b e f g. h (place n j cell e) }
+stored-bounded n depth k entries h = record { root-within = h 0; detail-within = λ j i cell b e f g. h (index n j cell e) }

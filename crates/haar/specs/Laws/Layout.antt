@@ -2,11 +2,11 @@
 --
 -- Main results
 --   IsDetail                     detail e of a cell of level j exists
---   place-low, place-pos         a level's details stand from `children n ^ j` on, and none at 0, the root's place
---   place-high, place-within     they stand before those of the next level, and so within a table of any greater depth
---   SameDetail, place-injective  details at one place are one and the same
---   DetailAt, place-onto         at every place of a table but the root's there is a detail
---   place-plane                  the places on the tile
+--   index-low, index-pos         a level's details stand from `children n ^ j` on, and none at 0, the root's index
+--   index-high, index-within     they stand before those of the next level, and so within a table of any greater depth
+--   SameDetail, index-injective  details with one index are one and the same
+--   DetailAt, index-onto         every index of a table but the root's has a detail
+--   index-plane                  the indices on the tile
 use mathlib.Core.Path.{_≡_, sym, _∙_, ap, ap₂}
 use Prim.Native.Nat.{ℕ, zero, suc, _+_, _*_, _-_, _/_, _%_, _^_, _<_, _≤_}
 use native.Mathlib.Omega.{arith}
@@ -15,7 +15,7 @@ use native.Mathlib.Nat.{pow-zero, one-le-pow, pow-le-pow-right, mul-le-mul-right
 use lib.Arith.{digits-lt, digits-div, digits-mod}
 use lib.Pow.{pow-pos}
 use Rattle.haar.specs.Cells.{children, details, Cell, Below, rowMajor, cellAt}
-use Rattle.haar.specs.Table.{place}
+use Rattle.haar.specs.Table.{index}
 use Rattle.haar.specs.Plane.{dimensions, at}
 use Rattle.haar.specs.Laws.Cells.{rowMajor-lt, cellAt-rowMajor, below-cellAt, rowMajor-cellAt, level-cells, next-level}
 
@@ -25,41 +25,41 @@ pub record IsDetail (n j : ℕ) (cell : Cell n) (e : ℕ) : Type 0 where
   pub last : e ≤ details n
 
 -- ---- where a level begins and ends
-pub place-low : (n j : ℕ) (cell : Cell n) (e : ℕ) → children n ^ j ≤ place n j cell e
-unfolding place
-place-low n j cell e = omega arith
+pub index-low : (n j : ℕ) (cell : Cell n) (e : ℕ) → children n ^ j ≤ index n j cell e
+unfolding index
+index-low n j cell e = omega arith
 
-pub place-pos : (n j : ℕ) (cell : Cell n) (e : ℕ) → 1 ≤ place n j cell e
-place-pos n j cell e = omega (arith, one-le-pow j (children n) (pow-pos n), place-low n j cell e)
+pub index-pos : (n j : ℕ) (cell : Cell n) (e : ℕ) → 1 ≤ index n j cell e
+index-pos n j cell e = omega (arith, one-le-pow j (children n) (pow-pos n), index-low n j cell e)
 
-pub place-high : {n j : ℕ} {cell : Cell n} {e : ℕ} → IsDetail n j cell e → place n j cell e < children n ^ suc j
-unfolding place
-place-high {n} {j} {cell} {e} d =
+pub index-high : {n j : ℕ} {cell : Cell n} {e : ℕ} → IsDetail n j cell e → index n j cell e < children n ^ suc j
+unfolding index
+index-high {n} {j} {cell} {e} d =
     let r : rowMajor n (2 ^ j) cell < children n ^ j = omega (arith, rowMajor-lt n (2 ^ j) cell (d .inside), level-cells n j) in
     let k : e - 1 < details n = omega arith in
     omega (arith, next-level n j, digits-lt r k)
 
-pub place-within : {n j depth : ℕ} {cell : Cell n} {e : ℕ} → j < depth → IsDetail n j cell e → place n j cell e < children n ^ depth
-place-within {n} h d = omega (arith, place-high d, pow-le-pow-right {n = children n} (pow-pos n) h)
+pub index-within : {n j depth : ℕ} {cell : Cell n} {e : ℕ} → j < depth → IsDetail n j cell e → index n j cell e < children n ^ depth
+index-within {n} h d = omega (arith, index-high d, pow-le-pow-right {n = children n} (pow-pos n) h)
 
--- ---- the cell and the number of the detail at place i, of a level that is known
+-- ---- the cell and the number of the detail at index i, of a level that is known
 abbrev cellOf : (n j i : ℕ) → Cell n
 cellOf n j i = cellAt n (2 ^ j) ((i - children n ^ j) / details n)
 
 abbrev numberOf : (n j i : ℕ) → ℕ
 numberOf n j i = suc ((i - children n ^ j) % details n)
 
-offset : (n j : ℕ) (cell : Cell n) (e : ℕ) → place n j cell e - children n ^ j ≡ rowMajor n (2 ^ j) cell * details n + (e - 1)
-unfolding place
+offset : (n j : ℕ) (cell : Cell n) (e : ℕ) → index n j cell e - children n ^ j ≡ rowMajor n (2 ^ j) cell * details n + (e - 1)
+unfolding index
 offset n j cell e = omega arith
 
-cellOf-place : {n j : ℕ} {cell : Cell n} {e : ℕ} → IsDetail n j cell e → cellOf n j (place n j cell e) ≡ cell
-cellOf-place {n} {j} {cell} {e} d =
+cellOf-index : {n j : ℕ} {cell : Cell n} {e : ℕ} → IsDetail n j cell e → cellOf n j (index n j cell e) ≡ cell
+cellOf-index {n} {j} {cell} {e} d =
     ap (λ o. cellAt n (2 ^ j) (o / details n)) (offset n j cell e) ∙ ap (cellAt n (2 ^ j)) (digits-div _ (omega arith))
     ∙ cellAt-rowMajor n (2 ^ j) cell (d .inside)
 
-numberOf-place : {n j : ℕ} {cell : Cell n} {e : ℕ} → IsDetail n j cell e → numberOf n j (place n j cell e) ≡ e
-numberOf-place {n} {j} {cell} {e} d = ap (λ o. suc (o % details n)) (offset n j cell e) ∙ ap suc (digits-mod _ (omega arith)) ∙ omega arith
+numberOf-index : {n j : ℕ} {cell : Cell n} {e : ℕ} → IsDetail n j cell e → numberOf n j (index n j cell e) ≡ e
+numberOf-index {n} {j} {cell} {e} d = ap (λ o. suc (o % details n)) (offset n j cell e) ∙ ap suc (digits-mod _ (omega arith)) ∙ omega arith
 
 -- ---- one to one
 pub record SameDetail (n j : ℕ) (cell : Cell n) (e j′ : ℕ) (cell′ : Cell n) (e′ : ℕ) : Type 0 where
@@ -67,19 +67,19 @@ pub record SameDetail (n j : ℕ) (cell : Cell n) (e j′ : ℕ) (cell′ : Cell
   pub same-cell : cell ≡ cell′
   pub same-number : e ≡ e′
 
--- a level ends where the next begins, so details at one place are of one level
+-- a level ends where the next begins, so details with one index are of one level
 not-deeper : {n j : ℕ} {cell : Cell n} {e : ℕ} (j′ : ℕ) (cell′ : Cell n) (e′ : ℕ)
-    → IsDetail n j cell e → place n j cell e ≡ place n j′ cell′ e′ → ¬ (j < j′)
-not-deeper {n} j′ cell′ e′ d q h = omega (arith, place-within h d, place-low n j′ cell′ e′)
+    → IsDetail n j cell e → index n j cell e ≡ index n j′ cell′ e′ → ¬ (j < j′)
+not-deeper {n} j′ cell′ e′ d q h = omega (arith, index-within h d, index-low n j′ cell′ e′)
 
-pub place-injective : {n j j′ : ℕ} {cell cell′ : Cell n} {e e′ : ℕ} → IsDetail n j cell e → IsDetail n j′ cell′ e′
-    → place n j cell e ≡ place n j′ cell′ e′ → SameDetail n j cell e j′ cell′ e′
-place-injective {n} {j} {j′} {cell} {cell′} {e} {e′} d d′ q =
+pub index-injective : {n j j′ : ℕ} {cell cell′ : Cell n} {e e′ : ℕ} → IsDetail n j cell e → IsDetail n j′ cell′ e′
+    → index n j cell e ≡ index n j′ cell′ e′ → SameDetail n j cell e j′ cell′ e′
+index-injective {n} {j} {j′} {cell} {cell′} {e} {e′} d d′ q =
     let l : j ≡ j′ = omega (arith, not-deeper j′ cell′ e′ d q, not-deeper j cell e d′ (sym q)) in
     record {
       same-level = l;
-      same-cell = sym (cellOf-place d) ∙ ap₂ (cellOf n) l q ∙ cellOf-place d′;
-      same-number = sym (numberOf-place d) ∙ ap₂ (numberOf n) l q ∙ numberOf-place d′;
+      same-cell = sym (cellOf-index d) ∙ ap₂ (cellOf n) l q ∙ cellOf-index d′;
+      same-number = sym (numberOf-index d) ∙ ap₂ (numberOf n) l q ∙ numberOf-index d′;
     }
 
 -- ---- onto
@@ -89,10 +89,10 @@ pub record DetailAt (n depth i : ℕ) : Type 0 where
   pub number : ℕ
   pub below : level < depth
   pub is-detail : IsDetail n level cell number
-  pub at : i ≡ place n level cell number
+  pub at : i ≡ index n level cell number
 
 on-level : {n j depth i : ℕ} → j < depth → children n ^ j ≤ i → i < children n ^ suc j → DetailAt n depth i
-unfolding place
+unfolding index
 on-level {n} {j} {depth} {i} b low high =
     let d = details n in
     let o = i - children n ^ j in
@@ -109,14 +109,14 @@ on-level {n} {j} {depth} {i} b low high =
     }
 
 -- down from the table's depth to the level whose entries begin at i or before it
-pub place-onto : (n depth i : ℕ) → 1 ≤ i → i < children n ^ depth → DetailAt n depth i
-place-onto n depth i g h = go depth (omega arith) h
+pub index-onto : (n depth i : ℕ) → 1 ≤ i → i < children n ^ depth → DetailAt n depth i
+index-onto n depth i g h = go depth (omega arith) h
   where
     go : (k : ℕ) → k ≤ depth → i < children n ^ k → DetailAt n depth i
     go zero b high = absurd (omega (arith, pow-zero (children n)))
     go (suc k) b high = elim (decLt i (children n ^ k)) [ yes l ↦ go k (omega arith) l | no l ↦ on-level b (omega arith) high ]
 
 -- ---- two directions: "from 4^j + 3 × (cy × 2^j + cx) on"
-pub place-plane : (j cx cy e : ℕ) → place dimensions j (at cx cy) e ≡ 4 ^ j + 3 * (cy * 2 ^ j + cx) + (e - 1)
-unfolding place rowMajor
-place-plane j cx cy e = omega arith
+pub index-plane : (j cx cy e : ℕ) → index dimensions j (at cx cy) e ≡ 4 ^ j + 3 * (cy * 2 ^ j + cx) + (e - 1)
+unfolding index rowMajor
+index-plane j cx cy e = omega arith

@@ -11,7 +11,7 @@ use lib.Seq.{ext-getD}
 use lib.IntN.{ℤ, pos}
 use Rattle.haar.specs.Cells.{children}
 use Rattle.haar.specs.Table.{stored}
-use Rattle.haar.specs.Laws.Layout.{place-onto}
+use Rattle.haar.specs.Laws.Layout.{index-onto}
 use Rattle.haar.specs.Laws.Figures.{SameBelow}
 
 pub stored-unique : (n depth : ℕ) (k l : List ℤ) → length k ≡ children n ^ depth → length l ≡ children n ^ depth
@@ -21,7 +21,7 @@ stored-unique n depth k l e f s = ext-getD (pos 0) k l (e ∙ sym f) entry
     entry : (i : ℕ) → i < length k → getD k i (pos 0) ≡ getD l i (pos 0)
     entry zero h = s .same-root
     entry (suc i) h =
-        let d = place-onto n depth (suc i) (omega arith) (omega arith) in
+        let d = index-onto n depth (suc i) (omega arith) (omega arith) in
         let g = d .is-detail in
         ap (λ p. getD k p (pos 0)) (d .at) ∙ s .same-detail (d .level) (d .below) (d .cell) (g .inside) (d .number) (g .first) (g .last)
         ∙ sym (ap (λ p. getD l p (pos 0)) (d .at))

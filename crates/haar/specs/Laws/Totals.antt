@@ -19,7 +19,7 @@ use Rattle.haar.specs.Table.{Coefficients}
 use Rattle.haar.specs.Figures.{signedDetails, figure}
 use Rattle.haar.specs.Pictures.{tabulate, picture}
 use Rattle.haar.specs.Laws.Cells.{level-cells}
-use Rattle.haar.specs.Laws.CellSums.{Σcells, Σcells-scale, Σcells-one, Σ-places, cells-by-children}
+use Rattle.haar.specs.Laws.CellSums.{Σcells, Σcells-scale, Σcells-one, Σ-cellAt, cells-by-children}
 use Rattle.haar.specs.Laws.Signs.{sign-row-sum}
 use Rattle.haar.specs.Laws.Figures.{figure-root, figure-child}
 
@@ -71,4 +71,4 @@ pub picture-total : (n : ℕ) (t : Coefficients n) (level : ℕ) → total (λ z
 picture-total n t level =
     total-tabulate (λ z. z) (children n ^ level) (λ i. figure n t level (cellAt n (2 ^ level) i))
     ∙ ap (λ k. Σ< k (λ i. figure n t level (cellAt n (2 ^ level) i))) (sym (level-cells n level))
-    ∙ Σ-places n (2 ^ level) (figure n t level) ∙ figures-total n t level
+    ∙ Σ-cellAt n (2 ^ level) (figure n t level) ∙ figures-total n t level
