@@ -47,7 +47,7 @@ struct Pair {
 }
 
 // How many cells a level has in each direction.
-fn cells_across(level: usize) -> usize
+pub fn cells_across(level: usize) -> usize
     requires { ⌜ level ≤ greatestDepth ⌝ }
     ensures { λ r. ⌜ r ≡ 2 ^ level ⌝ }
 {

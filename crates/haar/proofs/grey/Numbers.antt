@@ -17,12 +17,16 @@ use Rattle.integers.specs.Rounding.{floor, roundHalfUp}
 use Rattle.haar.specs.Greys.{full, greyOf}
 use Rattle.haar.specs.Laws.Greys.{full-pos, grey-clamp}
 
--- the bits that `grey_of` shifts by: a pixel has 2^17 units, and a tile 2^depth × 2^depth pixels
+-- a pixel has 2^17 units: `full-shift` fails where it has not
+abbrev pixelBits : ℕ
+pixelBits = 17
+
+-- the bits that `grey_of` shifts by: a tile has 2^depth × 2^depth pixels
 abbrev pub bits : ℕ → ℕ
-bits depth = 17 + 2 * depth
+bits depth = pixelBits + 2 * depth
 
 pub full-shift : (depth : ℕ) → 2 ^ bits depth ≡ full (2 ^ depth)
-full-shift depth = pow-add 2 17 (2 * depth) ∙ ap (λ n. 2 ^ 17 * n) (ap (λ n. 2 ^ n) (two-mul depth) ∙ pow-add 2 depth depth)
+full-shift depth = pow-add 2 pixelBits (2 * depth) ∙ ap (λ n. 2 ^ pixelBits * n) (ap (λ n. 2 ^ n) (two-mul depth) ∙ pow-add 2 depth depth)
 
 pub full-most : {depth : ℕ} → depth ≤ greatestDepth → 2 ^ bits depth ≤ 2 ^ bits greatestDepth
 full-most {depth} h = pow-mono {i = bits depth} {j = bits greatestDepth} (omega arith)

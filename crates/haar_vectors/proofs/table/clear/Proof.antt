@@ -5,8 +5,8 @@ use native.Mathlib.Omega.{arith}
 use lib.ListN.{length}
 use Rattle.haar_vectors.specs.Entries.{Entries}
 use Rattle.haar_vectors.proofs.Tables.{zero-within, entries-set}
-use Rattle.haar_vectors.proofs.clear.Statement.{statement}
-use Rattle.haar_vectors.proofs.clear.Tie as tie
+use Rattle.haar_vectors.proofs.table.clear.Statement.{statement}
+use Rattle.haar_vectors.proofs.table.clear.Tie as tie
 
 abbrev Inv-loop : tie.InvT-loop
 Inv-loop table₀ i₀ i-end table i = Entries table

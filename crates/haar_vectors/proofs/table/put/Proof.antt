@@ -2,8 +2,8 @@
 use borrow.Author.Needs.{needs}
 use Rattle.integers.specs.Bits.{fits-within, within-back}
 use Rattle.haar_vectors.proofs.Tables.{entries-set}
-use Rattle.haar_vectors.proofs.put.Statement.{statement}
-use Rattle.haar_vectors.proofs.put.Tie as tie
+use Rattle.haar_vectors.proofs.table.put.Statement.{statement}
+use Rattle.haar_vectors.proofs.table.put.Tie as tie
 
 stored : tie.Need-returns-3
 stored c =

@@ -7,8 +7,8 @@ use lib.Dec.{lit<}
 use lib.Pow.{shl-exact, pow-add}
 use borrow.Author.Needs.{needs}
 use Rattle.haar.specs.Laws.Cells.{level-square}
-use Rattle.haar_vectors.proofs.cells.Statement.{statement}
-use Rattle.haar_vectors.proofs.cells.Tie as tie
+use Rattle.haar_vectors.proofs.table.cells.Statement.{statement}
+use Rattle.haar_vectors.proofs.table.cells.Tie as tie
 
 returns : tie.Need-returns
 returns c =

@@ -2,8 +2,8 @@
 use Prim.Native.Nat.{_≤_, _-_}
 use lib.ListN.{length}
 use borrow.Author.Needs.{needs}
-use Rattle.haar_vectors.proofs.tell_numbers.Statement.{statement}
-use Rattle.haar_vectors.proofs.tell_numbers.Tie as tie
+use Rattle.haar_vectors.proofs.show.tell_numbers.Statement.{statement}
+use Rattle.haar_vectors.proofs.show.tell_numbers.Tie as tie
 
 abbrev Inv-loop : tie.InvT-loop
 Inv-loop numbers sum₀ i₀ i-end sum i = i ≤ length numbers

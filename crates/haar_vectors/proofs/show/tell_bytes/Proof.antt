@@ -3,8 +3,8 @@ use Prim.Native.Nat.{_≤_, _-_}
 use native.Mathlib.Omega.{arith}
 use lib.ListN.{length}
 use borrow.Author.Needs.{needs}
-use Rattle.haar_vectors.proofs.tell_bytes.Statement.{statement}
-use Rattle.haar_vectors.proofs.tell_bytes.Tie as tie
+use Rattle.haar_vectors.proofs.show.tell_bytes.Statement.{statement}
+use Rattle.haar_vectors.proofs.show.tell_bytes.Tie as tie
 
 abbrev Inv-loop : tie.InvT-loop
 Inv-loop bytes sum₀ i₀ i-end sum i = i ≤ length bytes

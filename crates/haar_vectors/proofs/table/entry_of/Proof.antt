@@ -10,8 +10,8 @@ use Rattle.integers.specs.Units.{entryLimit}
 use Rattle.integers.specs.Order.{pos-≤ℤ, nonneg}
 use Rattle.integers.specs.Within.{Within, within-is, within-le, within-self, within-sub}
 use Rattle.integers.specs.Bits.{fits-within, within-back}
-use Rattle.haar_vectors.proofs.entry_of.Statement.{statement}
-use Rattle.haar_vectors.proofs.entry_of.Tie as tie
+use Rattle.haar_vectors.proofs.table.entry_of.Statement.{statement}
+use Rattle.haar_vectors.proofs.table.entry_of.Tie as tie
 
 as-it-is : (s : tie.Start) → Within (pos entryLimit) (toZ w64 (s .args .size))
 as-it-is s = within-is refl (sym (toZ-pos w64 (omega (arith, s .pre)))) (within-le (pos-≤ℤ (s .pre)) (within-self (nonneg (s .args .size))))

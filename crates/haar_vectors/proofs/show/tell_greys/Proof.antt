@@ -2,8 +2,8 @@
 use mathlib.Core.Path.{sym}
 use borrow.Author.Needs.{needs}
 use Rattle.haar_vectors.proofs.Tables.{Part, entries-part}
-use Rattle.haar_vectors.proofs.tell_greys.Statement.{statement}
-use Rattle.haar_vectors.proofs.tell_greys.Tie as tie
+use Rattle.haar_vectors.proofs.show.tell_greys.Statement.{statement}
+use Rattle.haar_vectors.proofs.show.tell_greys.Tie as tie
 
 part : (c : tie.After-buffer)
     → Part (c .before .before .args .table .now) (c .before .before .args .level) (c .before .cells .result) (c .buffer .result)

@@ -1,8 +1,8 @@
 -- The cell is one of its level.
 use borrow.Author.Needs.{needs}
 use Rattle.haar_vectors.proofs.Tables.{entries-drawable}
-use Rattle.haar_vectors.proofs.show_cell.Statement.{statement}
-use Rattle.haar_vectors.proofs.show_cell.Tie as tie
+use Rattle.haar_vectors.proofs.show.show_cell.Statement.{statement}
+use Rattle.haar_vectors.proofs.show.show_cell.Tie as tie
 
 figure-at-requires : tie.Need-figure-at-requires
 figure-at-requires c κs = record {

@@ -2,8 +2,8 @@
 use Prim.Native.Nat.{_+_, _≤_, _-_}
 use native.Mathlib.Omega.{arith}
 use borrow.Author.Needs.{needs}
-use Rattle.haar_vectors.proofs.show_table.Statement.{statement}
-use Rattle.haar_vectors.proofs.show_table.Tie as tie
+use Rattle.haar_vectors.proofs.show.show_table.Statement.{statement}
+use Rattle.haar_vectors.proofs.show.show_table.Tie as tie
 
 abbrev Inv-loop : tie.InvT-loop
 Inv-loop table depth level₀ level-end level = level ≤ depth + 1

@@ -3,8 +3,8 @@ use Prim.Native.Nat.{_≤_, _-_}
 use lib.ListN.{length}
 use borrow.Author.Needs.{needs}
 use Rattle.haar_vectors.specs.Entries.{Entries}
-use Rattle.haar_vectors.proofs.read_all.Statement.{statement}
-use Rattle.haar_vectors.proofs.read_all.Tie as tie
+use Rattle.haar_vectors.proofs.read.read_all.Statement.{statement}
+use Rattle.haar_vectors.proofs.read.read_all.Tie as tie
 
 abbrev Inv-loop : tie.InvT-loop
 Inv-loop text table₀ r₀ i₀ i-end table r i = Entries table × (i ≤ length text)

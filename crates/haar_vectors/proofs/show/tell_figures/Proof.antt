@@ -1,8 +1,8 @@
 -- The picture has as many places as the level has cells.
 use borrow.Author.Needs.{needs}
 use Rattle.haar_vectors.proofs.Tables.{Part, entries-part}
-use Rattle.haar_vectors.proofs.tell_figures.Statement.{statement}
-use Rattle.haar_vectors.proofs.tell_figures.Tie as tie
+use Rattle.haar_vectors.proofs.show.tell_figures.Statement.{statement}
+use Rattle.haar_vectors.proofs.show.tell_figures.Tie as tie
 
 part : (c : tie.After-blank)
     → Part (c .before .before .args .table .now) (c .before .before .args .level) (c .before .cells .result) (c .blank .result)
