@@ -27,7 +27,8 @@ use Rattle.edge.specs.declared.Walk.{Walk}
 use Rattle.edge.specs.Walk.{steps, xAxis, yAxis, beyond, past, near}
 use Rattle.edge.specs.Integrals.{along, hNum, vNum, dNum}
 use Rattle.edge.specs.Rounded.{details}
-use Rattle.edge.specs.Lemmas.Ends.{rounded-whole, Steady, x-steady, y-steady}
+use Rattle.edge.specs.Laws.StepCount.{rounded-whole}
+use Rattle.edge.specs.Lemmas.Ends.{Steady, x-steady, y-steady}
 use Rattle.edge.specs.Code.{Closed, SamplesWithin, SamplesClosed, beyondAt, nearAt, pieceSum, numeratorsAt, roundedBy}
 use Rattle.edge.specs.Lemmas.Runs.{Ordered}
 use Rattle.edge.specs.Cuts.{span, cuts}

@@ -23,7 +23,8 @@ use Rattle.edge.specs.declared.Cell.{Cell}
 use Rattle.edge.specs.declared.Axis.{Axis}
 use Rattle.edge.specs.Walk.{dx, dy, ax, ay, steps, xAxis, yAxis, beyond, past, near}
 use Rattle.edge.specs.Lemmas.Records.{details-eq}
-use Rattle.edge.specs.Lemmas.Ends.{rounded-whole, beyond-start, x-end, y-end, past-scale, near-scale}
+use Rattle.edge.specs.Laws.StepCount.{rounded-whole}
+use Rattle.edge.specs.Lemmas.Ends.{beyond-start, x-end, y-end, past-scale, near-scale}
 use Rattle.edge.specs.Integrals.{along, hNum, vNum, dNum}
 use Rattle.edge.specs.Rounded.{details}
 use Rattle.edge.specs.Lemmas.Runs.{piece, LinearOn, upto, upto-zero, upto-all, linear-run}

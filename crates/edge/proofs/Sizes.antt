@@ -17,7 +17,7 @@ use Rattle.integers.specs.Within.{Within, within-le, within-self}
 use Rattle.edge.specs.declared.Edge.{Edge}
 use Rattle.edge.specs.declared.Cell.{Cell}
 use Rattle.edge.specs.Walk.{extent, dx, ax}
-use Rattle.edge.specs.Lemmas.Ends.{extent-pos}
+use Rattle.edge.specs.Laws.StepCount.{extent-pos}
 use Rattle.edge.specs.Room.{coordinateLimit, extentLimit, Room}
 use Rattle.edge.specs.Laws.Cells.{extent-at-most}
 use Rattle.integers.specs.Bits.{back}

@@ -5,9 +5,8 @@
 --   half-room, back-room            for half the width, and for numbers that are read back
 --   steps-within                    the number of steps
 --   divisor-pos, divisor-within     what the numerators are divided by
-use mathlib.Core.Path.{_≡_, sym, _∙_, ap, subst, subst⁻¹}
+use mathlib.Core.Path.{_≡_, sym, _∙_, ap, subst⁻¹}
 use mathlib.Core.List.{[], _∷_}
-use Prim.Native.Nat.{_<_, _≤_}
 use native.Mathlib.Nat.{max-le}
 use native.Mathlib.Omega.{arith}
 use lib.IntN.{ℤ, pos, _+ℤ_, _-ℤ_, _*ℤ_}
@@ -23,7 +22,8 @@ use Rattle.edge.specs.declared.Axis.{Axis}
 use Rattle.edge.specs.declared.Cell.{Cell}
 use Rattle.edge.specs.declared.Walk.{Walk}
 use Rattle.edge.specs.Walk.{extent, sign, dx, dy, steps}
-use Rattle.edge.specs.Lemmas.Ends.{steps-pos, direction, direction-within}
+use Rattle.edge.specs.Laws.StepCount.{steps-pos}
+use Rattle.edge.specs.Lemmas.Ends.{direction, direction-within}
 use Rattle.edge.specs.Octilinear.{unitSteps}
 use Rattle.edge.specs.Room.{coordinateLimit, extentLimit, crossingLimit, Measured, Room}
 use Rattle.edge.specs.Code.{AxisRoom}

@@ -1,5 +1,7 @@
 -- What other crates may cite of the integrals, one law a file.
 
+-- the number of steps is above 0
+pub mod StepCount
 -- more and shorter steps change neither the integrals nor what lies inside: the sums are the integrals
 pub mod Refinement
 pub mod InsideRefinement

@@ -5,9 +5,13 @@
 --   total-cong, total-add, total-scale, total-neg, total-append, total-const     as of any finite sum
 --   total-within                      terms bounded each by its own bound are bounded by the bounds' sum
 --   total-perm                        the order of the list does not matter
+--   total-map                         the sum over the images of a list's elements
+--   tally, tally-total, tally-const   a count over a list: a sum of natural numbers
 use mathlib.Core.Path.{_≡_, refl, _∙_, ap, ap₂}
-use mathlib.Core.List.{List, [], _∷_, _++_, Perm, List·Permᴰ, List·Permᴰ·nil, List·Permᴰ·cons, List·Permᴰ·swap, List·Permᴰ·trans}
+use mathlib.Core.List.{List, [], _∷_, _++_, map, Perm, List·Permᴰ, List·Permᴰ·nil, List·Permᴰ·cons, List·Permᴰ·swap, List·Permᴰ·trans}
 use mathlib.Core.Logic.{∥∥₁-elim}
+use Prim.Native.Nat.{ℕ, _+_, _*_}
+use native.Mathlib.Omega.{arith}
 use lib.ListN.{length}
 use lib.IntN.{ℤ, pos, negℤ, _+ℤ_, _*ℤ_, ℤ-set}
 use lib.Signed.{≤ℤ-refl}
@@ -83,3 +87,24 @@ module _ {A : Type 0} where
 
   pub total-perm : (f : A → ℤ) {k l : List A} → Perm k l → total f k ≡ total f l
   total-perm f {k} {l} p = ∥∥₁-elim p (ℤ-set (total f k) (total f l)) (λ d. total-permᴰ f d)
+
+-- ---- images
+pub total-map : {A B : Type 0} (f : B → ℤ) (g : A → B) (l : List A) → total f (map g l) ≡ total (λ a. f (g a)) l
+unfolding total
+total-map f g [] = refl
+total-map f g (a ∷ l) = ap (λ z. f (g a) +ℤ z) (total-map f g l)
+
+-- ---- a count over a list
+unfoldable pub tally : {A : Type 0} → (A → ℕ) → List A → ℕ
+tally k [] = 0
+tally k (a ∷ l) = k a + tally k l
+
+pub tally-total : {A : Type 0} (k : A → ℕ) (l : List A) → pos (tally k l) ≡ total (λ a. pos (k a)) l
+unfolding tally total
+tally-total k [] = refl
+tally-total k (a ∷ l) = ap (λ z. pos (k a) +ℤ z) (tally-total k l)
+
+pub tally-const : {A : Type 0} (c : ℕ) (l : List A) → tally (λ a. c) l ≡ length l * c
+unfolding tally
+tally-const c [] = omega arith
+tally-const c (a ∷ l) = omega (arith, tally-const c l)

@@ -4,7 +4,7 @@
 --   shoelace, next-term          `ring`
 --   green                            `comb`
 --   past-the-middle, lighter         `lin≤`, with facts, with weights
---   one-grey, one-more               `lin<`, with facts, with none
+--   before-the-far-side, one-more    `lin<`, with facts, with none
 --   right-half                       `lin≡`
 --   one-rounding                     `lin⊥`, with a product as a fact
 --   square-of-difference             a square as a fact
@@ -16,7 +16,7 @@ use lib.IntN.{ℤ, pos, negℤ, _+ℤ_, _-ℤ_, _*ℤ_}
 use lib.Signed.{_≤ℤ_, _<ℤ_}
 use mir.Syntax.{w64}
 use mir.Val.{SFits, toZ, ofZ}
-use Rattle.integers.specs.Units.{unitsPerPixel, mostEdges, fullGrey, greatestCoordinate}
+use Rattle.integers.specs.Units.{unitsPerPixel, greatestCoordinate}
 use Rattle.integers.specs.Ring.{read, ring, comb, _⊕_, _⊗_}
 use Rattle.integers.specs.Order.{≤ℤ-mul, ≤ℤ-square}
 use Rattle.integers.specs.Linear.{le, lt, eq, _&_, none!, _⊹_, _·_, linear, lin≤, lin<, lin≡, lin⊥}
@@ -42,9 +42,9 @@ past-the-middle v h k = lin≤ (v ∷ h ∷ []) (le k) (search linear depth 40) 
 lighter : (f F h v d E : ℤ) → f ≤ℤ F → h ≤ℤ E → v ≤ℤ E → d ≤ℤ E → (f +ℤ pos 4 *ℤ (h +ℤ v +ℤ d)) ≤ℤ (F +ℤ pos 12 *ℤ E)
 lighter f F h v d E k a b c = lin≤ (f ∷ F ∷ h ∷ v ∷ d ∷ E ∷ []) (le (k ⊹ 4 · (a ⊹ b ⊹ c))) (search linear depth 40) tt
 
--- lin<: the misses of the most edges, at a level with P cells of a tile with Q pixels, stay below one grey
-one-grey : (P Q : ℤ) → pos 1 ≤ℤ P → P ≤ℤ Q → (pos fullGrey *ℤ (pos mostEdges *ℤ (P -ℤ pos 1))) <ℤ (pos 2 *ℤ (pos unitsPerPixel *ℤ Q))
-one-grey P Q h k = lin< (P ∷ Q ∷ []) (le h & le k) (search linear depth 40) tt
+-- lin<: what is not past the middle of a cell is before its far side
+before-the-far-side : (p h w : ℤ) → pos 0 <ℤ h → w ≡ h +ℤ h → p ≤ℤ h → p <ℤ w
+before-the-far-side p h w g e k = lin< (p ∷ h ∷ w ∷ []) (lt g & eq e & le k) (search linear depth 40) tt
 
 -- lin<, from no facts
 one-more : (f : ℤ) → f <ℤ (f +ℤ pos unitsPerPixel)

@@ -6,7 +6,7 @@
 --   greatestDepth, greatestSide, greatestCoordinate                 the tile
 --   fewestPoints, mostPoints, mostEdges                             the outline
 --   widthTimesExtentLimit, numeratorLimit                           an edge's arithmetic
---   entryLimit, figureLimit, fullGrey, textLimit                    the table, what is drawn of it, the program
+--   entryLimit, builtEntryLimit, figureLimit, fullGrey, textLimit   the table, what is drawn of it, the program
 use mathlib.Core.Path.{_≡_, refl}
 use Prim.Native.Nat.{ℕ, _*_, _^_}
 
@@ -71,6 +71,13 @@ numerator-is = refl
 -- ---- the table: "Is every entry of the table from −2^40 to 2^40?" A built table stays within 2^38, and figures of a table in this range within 2^52.
 abbrev pub entryLimit : ℕ
 entryLimit = 2 ^ 40
+
+-- An edge adds at most its extent times a cell's width to an entry, so this is what the most edges add.
+abbrev pub builtEntryLimit : ℕ
+builtEntryLimit = mostEdges * widthTimesExtentLimit
+
+built-entry-is : builtEntryLimit ≡ 2 ^ 38
+built-entry-is = refl
 
 -- A figure is at most as many times an entry as its level has cells.
 abbrev pub figureLimit : ℕ

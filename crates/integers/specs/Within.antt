@@ -4,10 +4,10 @@
 --   within-add, within-sub, within-neg, within-mul, within-scale     bounds of sums, differences, products, multiples
 --   within-le, within-is, within-self                                a larger bound, an equal one, a number's own
 --   within-sign                                                      of a number times 1 or −1
---   within-of-abs, abs-of-within                                     the same as |x| ≤ b
+--   within-of-abs, abs-of-within, scaled-abs-of-within               the same as |x| ≤ b, or k |x| ≤ b
 --   zero-of-within                                                   within 0 is 0
 --   bounds                                                           as facts for `lin≤`
-use mathlib.Core.Path.{_≡_, refl, sym, subst₂}
+use mathlib.Core.Path.{_≡_, refl, sym, subst, subst₂}
 use mathlib.Core.List.{[], _∷_}
 use mathlib.Core.Logic.{_⊎_, inl, inr}
 use Prim.Native.Nat.{ℕ}
@@ -16,7 +16,7 @@ use lib.Signed.{_≤ℤ_}
 use Rattle.integers.specs.Ring.{read, comb, _⊗_}
 use Rattle.integers.specs.Order.{≤ℤ-mul, nonneg}
 use Rattle.integers.specs.Linear.{end, more, Facts, le, _&_, linear, lin≤, lin≡}
-use Rattle.integers.specs.Magnitude.{abs, abs-le, le-abs, neg-le-abs}
+use Rattle.integers.specs.Magnitude.{abs, abs-mul, abs-le, le-abs, neg-le-abs}
 
 pub record Within (b x : ℤ) : Type 0 where
   pub low : negℤ b ≤ℤ x
@@ -78,6 +78,10 @@ within-of-abs {b} {x} h = record {
 
 pub abs-of-within : {b x : ℤ} → Within b x → abs x ≤ℤ b
 abs-of-within {b} {x} w = abs-le (w .high) (lin≤ (b ∷ x ∷ []) (le (w .low)) (search linear depth 40) tt)
+
+pub scaled-abs-of-within : {b : ℤ} (k : ℕ) (x : ℤ) → Within b (pos k *ℤ x) → (pos k *ℤ abs x) ≤ℤ b
+unfolding abs
+scaled-abs-of-within {b} k x w = subst (λ z. z ≤ℤ b) (abs-mul (pos k) x) (abs-of-within w)
 
 pub zero-of-within : {x : ℤ} → Within (pos 0) x → x ≡ pos 0
 zero-of-within {x} w = lin≡ (x ∷ []) (bounds w) (search linear depth 40) (tt, tt)

@@ -21,7 +21,8 @@ use Rattle.integers.specs.RoundHalfAway.{roundHalfAway-within}
 use Rattle.edge.specs.declared.Edge.{Edge}
 use Rattle.edge.specs.declared.Cell.{Cell}
 use Rattle.edge.specs.Walk.{extent, sign, dx, dy, ax, ay, steps, xAxis, yAxis}
-use Rattle.edge.specs.Lemmas.Ends.{sign-extent, steps-pos, direction}
+use Rattle.edge.specs.Laws.StepCount.{steps-pos}
+use Rattle.edge.specs.Lemmas.Ends.{sign-extent, direction}
 use Rattle.edge.specs.Integrals.{areaNum, hNum, vNum, dNum}
 use Rattle.edge.specs.Rounded.{details}
 use Rattle.edge.specs.Lemmas.SumBounds.{SumBounds, past-past, near-past, near-near}

@@ -3,6 +3,7 @@
 -- Main results
 --   contains-refl, contains-trans, contains-quarter      down the quadtree every cell lies in the one that it began with
 --   extent-at-most, extent-times                         bounds of an extent
+--   difference-on                                        two coordinates between two sides are at most the width apart
 --   Sheet, sheet-room                                    an edge on a sheet has room in each even cell of it whose width times the sheet's is in range
 use mathlib.Core.Path.{_≡_}
 use mathlib.Core.List.{[], _∷_}
@@ -69,7 +70,7 @@ extent-times (pos zero) {w} {b} h k = lin≤ (w ∷ b ∷ []) (le h) (search lin
 extent-times (pos (suc n)) h k = k .high
 extent-times (negsuc n) {w} {b} h k = lin≤ (pos n ∷ w ∷ b ∷ []) (le (k .low)) (search linear depth 40) tt
 
-difference-on : {side w p q : ℤ} → OnRange side w p → OnRange side w q → Within w (q -ℤ p)
+pub difference-on : {side w p q : ℤ} → OnRange side w p → OnRange side w q → Within w (q -ℤ p)
 difference-on {side} {w} {p} {q} i j = record {
   low = lin≤ (side ∷ w ∷ p ∷ q ∷ []) (le (i .high) & le (j .low)) (search linear depth 40) tt;
   high = lin≤ (side ∷ w ∷ p ∷ q ∷ []) (le (i .low) & le (j .high)) (search linear depth 40) tt;

@@ -24,7 +24,8 @@ use Rattle.edge.specs.declared.Cell.{Cell}
 use Rattle.edge.specs.declared.Axis.{Axis}
 use Rattle.edge.specs.Octilinear.{Octilinear, level, upright, diagonal, unitX, unitY, unitSteps}
 use Rattle.edge.specs.Walk.{extent, sign, dx, dy, ax, ay, steps, xAxis, yAxis, past, near}
-use Rattle.edge.specs.Lemmas.Ends.{rounded-whole, extent-pos, extent-neg, extent-zero, sign-zero, direction, direction-within}
+use Rattle.edge.specs.Laws.StepCount.{extent-pos, rounded-whole}
+use Rattle.edge.specs.Lemmas.Ends.{extent-neg, extent-zero, sign-zero, direction, direction-within}
 use Rattle.edge.specs.Integrals.{along, areaOn, hOn, vOn, dOn, areaNum, hNum, vNum, dNum}
 use Rattle.edge.specs.Inside.{SomeStepInside, Inside}
 use Rattle.edge.specs.Laws.Refinement.{finer, over, Pace, moving, standing, Subdivided, Piecewise, clamp-piecewise, tent-piecewise, even-nonneg, along-finer}

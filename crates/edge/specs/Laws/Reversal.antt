@@ -23,7 +23,8 @@ use Rattle.edge.specs.declared.Details.{Details}
 use Rattle.edge.specs.declared.Axis.{Axis}
 use Rattle.edge.specs.Walk.{extent, sign, steps, xAxis, yAxis, beyond, past, near}
 use Rattle.edge.specs.Lemmas.Records.{details-eq}
-use Rattle.edge.specs.Lemmas.Ends.{extent-neg, sign-neg, steps-pos, x-end, y-end}
+use Rattle.edge.specs.Laws.StepCount.{steps-pos}
+use Rattle.edge.specs.Lemmas.Ends.{extent-neg, sign-neg, x-end, y-end}
 use Rattle.edge.specs.Integrals.{along, areaNum, hNum, vNum, dNum}
 use Rattle.edge.specs.Rounded.{details, rootTerm}
 

@@ -30,7 +30,8 @@ use Rattle.edge.specs.Integrals.{along, hOn, dOn, hNum, vNum, dNum}
 use Rattle.edge.specs.Inside.{Between, SomeStepInside, Inside, Contains}
 use Rattle.edge.specs.Rounded.{details}
 use Rattle.edge.specs.Lemmas.Records.{details-eq}
-use Rattle.edge.specs.Lemmas.Ends.{rounded-whole, Steady, steady-within, x-steady, y-steady}
+use Rattle.edge.specs.Laws.StepCount.{rounded-whole}
+use Rattle.edge.specs.Lemmas.Ends.{Steady, steady-within, x-steady, y-steady}
 use Rattle.edge.specs.Lemmas.Steps.{exchanged, Outside, Rests, between-or-outside, outside-rests}
 use Rattle.edge.specs.Lemmas.Runs.{piece, Idle, upto-zero, upto-all, idle-run}
 

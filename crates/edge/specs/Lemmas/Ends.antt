@@ -4,8 +4,6 @@
 --   sign-extent                     sign d × extent d = d
 --   extent-neg, sign-neg            of −d: the same extent, the opposite sign
 --   extent-zero, sign-zero          of 0: 1 and 0
---   extent-pos, steps-pos           an edge has at least one step
---   rounded-whole                   a value that is whole is kept by rounding
 --   Direction, direction            a sign is 1, 0 or −1
 --   direction-within                and so at most one either way
 --   Steady, steady-within,
@@ -14,17 +12,13 @@
 --   past-scale, near-scale          at a point the scale comes out
 use mathlib.Core.Path.{_≡_, refl, _∙_, ap}
 use mathlib.Core.List.{[], _∷_}
-use Prim.Native.Nat.{zero, suc, _<_}
-use native.Mathlib.Nat.{mul-pos}
-use native.Mathlib.Omega.{arith}
+use Prim.Native.Nat.{zero, suc}
 use lib.IntN.{ℤ, pos, negsuc, negℤ, _-ℤ_, _*ℤ_}
 use lib.Signed.{_≤ℤ_}
 use Rattle.integers.specs.Ring.{read, ring, comb, _⊗_}
 use Rattle.integers.specs.Order.{nonneg}
 use Rattle.integers.specs.Linear.{none!, linear, lin≤}
 use Rattle.integers.specs.Within.{Within}
-use Rattle.integers.specs.Rounding.{roundHalfAway}
-use Rattle.integers.specs.RoundHalfAway.{roundHalfAway-mul}
 use Rattle.integers.specs.Clamp.{clamp, clamp-scale}
 use Rattle.integers.specs.Tent.{tent, tent-scale}
 use Rattle.edge.specs.declared.Edge.{Edge}
@@ -37,12 +31,6 @@ unfolding sign extent
 sign-extent (pos zero) = refl
 sign-extent (pos (suc n)) = ring (pos n ∷ []) (search read depth 40) tt
 sign-extent (negsuc n) = ring (pos n ∷ []) (search read depth 40) tt
-
-pub extent-pos : (d : ℤ) → 0 < extent d
-unfolding extent
-extent-pos (pos zero) = omega arith
-extent-pos (pos (suc n)) = omega arith
-extent-pos (negsuc n) = omega arith
 
 pub extent-neg : (d : ℤ) → extent (negℤ d) ≡ extent d
 unfolding extent
@@ -63,13 +51,6 @@ extent-zero h = ap extent h
 pub sign-zero : {d : ℤ} → d ≡ pos 0 → sign d ≡ pos 0
 unfolding sign
 sign-zero h = ap sign h
-
-pub steps-pos : (e : Edge) → 0 < steps e
-steps-pos e = mul-pos (extent-pos (dx e)) (extent-pos (dy e))
-
--- a whole value stays as it is
-pub rounded-whole : (e : Edge) {z : ℤ} (q : ℤ) → z ≡ q *ℤ pos (steps e) → roundHalfAway z (steps e) ≡ q
-rounded-whole e q k = ap (λ z. roundHalfAway z (steps e)) k ∙ roundHalfAway-mul q (steps-pos e)
 
 pub data Direction : ℤ → Type 0 where
   forward : Direction (pos 1)

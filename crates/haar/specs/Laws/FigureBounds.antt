@@ -6,6 +6,7 @@
 --   Bounded n depth r b t        r and b bound the table t, down to the depth
 --   figure-within                and so its figures are within their bounds
 --   bound-const                  where b is k throughout, the bound is B^level k − k + r
+--   bound-scale                  m times the bounds of the root and the details, and the bound is m times as large
 --   stored-bounded               a list of entries within k is bounded by k throughout
 use mathlib.Core.Path.{_≡_, refl, sym, ap, subst}
 use mathlib.Core.List.{List, [], _∷_}
@@ -57,6 +58,11 @@ pub bound-const : (n r k level : ℕ) (cell : Cell n) → bound n r (λ j cell. 
 unfolding bound
 bound-const n r k zero cell = omega (arith, ap (λ m. m * k) (pow-zero (children n)))
 bound-const n r k (suc j) cell = omega (arith, bound-const n r k j (parent n cell), ap (λ m. m * k) (next-level n j))
+
+pub bound-scale : (n r : ℕ) (b : ℕ → Cell n → ℕ) (m level : ℕ) (cell : Cell n) → bound n (r * m) (λ j cell. b j cell * m) level cell ≡ bound n r b level cell * m
+unfolding bound
+bound-scale n r b m zero cell = refl
+bound-scale n r b m (suc j) cell = omega (arith, bound-scale n r b m j (parent n cell))
 
 pub stored-bounded : (n depth k : ℕ) (entries : List ℤ) → ((i : ℕ) → Within (pos k) (getD entries i (pos 0)))
     → Bounded n depth k (λ j cell. k) (stored n entries)

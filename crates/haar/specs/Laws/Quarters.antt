@@ -3,9 +3,11 @@
 --
 -- Main results
 --   figure-top                   the whole tile's figure is the root
+--   parent-at                    the cell that cell (cx, cy) is a quarter of
+--   signedDetails-quarter        ± h ± v ± d: a cell's details with their signs at a quarter
 --   quarterFigure                a quarter's figure from its cell's
 --   figure-quarter               every figure but the root's is such
-use mathlib.Core.Path.{_≡_, _∙_, ap, ap₂}
+use mathlib.Core.Path.{_≡_, refl, _∙_, ap, ap₂}
 use mathlib.Core.List.{[], _∷_}
 use Prim.Native.Nat.{ℕ, suc, _*_, _/_, _%_, _^_, _<_}
 use native.Mathlib.Omega.{arith}
@@ -44,19 +46,28 @@ signs w c =
     (w hDetail ⊗ plane-sign hDetail c (omega arith) ⊕ w vDetail ⊗ plane-sign vDetail c (omega arith) ⊕ w dDetail ⊗ plane-sign dDetail c (omega arith))
     (search read depth 40) tt
 
+pub parent-at : (cx cy : ℕ) → parent dimensions (at cx cy) ≡ at (cx / 2) (cy / 2)
+unfolding parent
+parent-at cx cy = refl
+
+pub signedDetails-quarter : (w : ℕ → ℤ) (cx cy : ℕ)
+    → signedDetails dimensions w (childNumber dimensions (at cx cy))
+    ≡ halfSign (cx % 2) *ℤ w hDetail +ℤ halfSign (cy % 2) *ℤ w vDetail +ℤ halfSign (cx % 2) *ℤ halfSign (cy % 2) *ℤ w dDetail
+unfolding childNumber
+signedDetails-quarter w cx cy =
+    let c = childNumber dimensions (at cx cy) in
+    let x : c % 2 ≡ cx % 2 = omega arith in
+    let half : c / 2 ≡ cy % 2 = omega arith in
+    let y : c / 2 % 2 ≡ cy % 2 = ap (λ k. k % 2) half ∙ mod-mod cy 2 in
+    signs w c ∙ ap₂ (λ a b. halfSign a *ℤ w hDetail +ℤ halfSign b *ℤ w vDetail +ℤ halfSign a *ℤ halfSign b *ℤ w dDetail) x y
+
 -- a quarter's figure from its cell's figure f, the scale 4^j and the cell's details w: in half a of x and half b of y
 abbrev pub quarterFigure : ℤ → ℕ → (ℕ → ℤ) → ℕ → ℕ → ℤ
 quarterFigure f scale w a b = f +ℤ pos scale *ℤ (halfSign a *ℤ w hDetail +ℤ halfSign b *ℤ w vDetail +ℤ halfSign a *ℤ halfSign b *ℤ w dDetail)
 
 pub figure-quarter : (t : Coefficients dimensions) (j cx cy : ℕ)
     → figureAt t (suc j) cx cy ≡ quarterFigure (figureAt t j (cx / 2) (cy / 2)) (4 ^ j) (t .detail j (at (cx / 2) (cy / 2))) (cx % 2) (cy % 2)
-unfolding parent childNumber
+unfolding parent
 figure-quarter t j cx cy =
-    let w = t .detail j (at (cx / 2) (cy / 2)) in
-    let c = childNumber dimensions (at cx cy) in
-    let x : c % 2 ≡ cx % 2 = omega arith in
-    let half : c / 2 ≡ cy % 2 = omega arith in
-    let y : c / 2 % 2 ≡ cy % 2 = ap (λ k. k % 2) half ∙ mod-mod cy 2 in
     figure-next dimensions t j (at cx cy)
-    ∙ ap (λ z. figureAt t j (cx / 2) (cy / 2) +ℤ pos (4 ^ j) *ℤ z)
-    (signs w c ∙ ap₂ (λ a b. halfSign a *ℤ w hDetail +ℤ halfSign b *ℤ w vDetail +ℤ halfSign a *ℤ halfSign b *ℤ w dDetail) x y)
+    ∙ ap (λ z. figureAt t j (cx / 2) (cy / 2) +ℤ pos (4 ^ j) *ℤ z) (signedDetails-quarter (t .detail j (at (cx / 2) (cy / 2))) cx cy)

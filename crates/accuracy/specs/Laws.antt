@@ -1,0 +1,24 @@
+-- How the claim is proved: one idea a file, in this order.
+
+-- around closed contours, what depends on the end points alone cancels
+pub mod Closed
+pub mod Contours
+-- a cell of the next level is a quarter
+pub mod Squares
+-- the exact areas: a quarter's from its cell's, and the whole tile's
+pub mod OutlineQuarter
+pub mod OutlineWhole
+-- so the figures, without rounding, are 4^L times these areas
+pub mod ExactFigures
+-- h, v and d at once
+pub mod Numbered
+-- what rounding does to each edge's details
+pub mod RoundingErrors
+-- so how far a figure misses: a sum over the cells that it lies in, and the edges that come inside
+pub mod Closeness
+-- and how far two greys are apart
+pub mod CloseGreys
+-- the table: how large its entries are, that the order of edges does not matter, and walked the other way
+pub mod EntryBounds
+pub mod Order
+pub mod Reversal

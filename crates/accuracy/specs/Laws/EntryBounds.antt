@@ -1,0 +1,97 @@
+-- How large the entries of an outline's table are. On a tile s steps wide an edge adds at most s² to an entry, either way.
+--
+-- Main results
+--   entries-bounded              every entry is at most the number of edges times s²
+--   built-entries                and so at most `builtEntryLimit` for a depth and a number of edges that are accepted
+use mathlib.Core.Path.{refl, subst}
+use mathlib.Core.List.{List, [], _∷_}
+use Prim.Native.Nat.{ℕ, _*_, _^_, _≤_}
+use native.Mathlib.Omega.{arith}
+use native.Mathlib.Nat.{le-trans, sub-le, sub-le-sub-left, zero-mul, mul-le-mul, mul-le-mul-left, pow-le-pow-right}
+use lib.ListN.{length}
+use lib.IntN.{ℤ, pos, _*ℤ_}
+use lib.Signed.{_≤ℤ_}
+use Rattle.integers.specs.Units.{stepsPerPixel, greatestDepth, greatestCoordinate, mostEdges, builtEntryLimit}
+use Rattle.integers.specs.Order.{nonneg, pos-≤ℤ, ≤ℤ-mul, ≤ℤ-mul-nonneg}
+use Rattle.integers.specs.Linear.{le, _&_, linear, lin≤}
+use Rattle.integers.specs.Magnitude.{abs, abs-nonneg}
+use Rattle.integers.specs.Within.{Within, within-le, within-is, within-self, within-mul, abs-of-within}
+use Rattle.integers.specs.ListSum.{All, all-map, total, total-const, total-within}
+use Rattle.edge.specs.declared.Edge.{Edge}
+use Rattle.edge.specs.Rounded.{details, rootTerm}
+use Rattle.edge.specs.Laws.Cells.{difference-on}
+use Rattle.edge.specs.Laws.Bounds.{rounded-h-bound, rounded-v-bound, rounded-d-bound}
+use Rattle.edge.specs.Laws.WholeTile.{OnRange, OnCell}
+use Rattle.haar.specs.Plane.{dimensions}
+use Rattle.haar.specs.Laws.FigureBounds.{Bounded}
+use Rattle.accuracy.specs.Tile.{span, square, tile}
+use Rattle.accuracy.specs.OutlineTable.{edgeTable, outlineTable}
+use Rattle.accuracy.specs.Laws.Numbered.{by-number}
+
+-- ---- the product of two coordinates between 0 and w
+range-mul : {w p q : ℤ} → OnRange (pos 0) w p → OnRange (pos 0) w q → OnRange (pos 0) (w *ℤ w) (p *ℤ q)
+range-mul {w} {p} {q} i j = record {
+  low = ≤ℤ-mul-nonneg (i .low) (j .low);
+  -- w² − p q = (w − p) q + p (w − q) + (w − p) (w − q)
+  high =
+      lin≤ (w ∷ p ∷ q ∷ []) (le (≤ℤ-mul (i .high) (j .low)) & le (≤ℤ-mul (i .low) (j .high)) & le (≤ℤ-mul (i .high) (j .high)))
+      (search linear depth 40) tt;
+}
+
+-- ---- widths: no cell is wider than the tile, and no tile than the greatest
+width-le : {i j : ℕ} → i ≤ j → stepsPerPixel * 2 ^ i ≤ stepsPerPixel * 2 ^ j
+width-le h = mul-le-mul-left stepsPerPixel (pow-le-pow-right {n = 2} (omega arith) h)
+
+-- ---- what one edge adds
+-- To the root, the difference of two products of coordinates, neither below 0; to a detail, how far it runs in x or in y times the cell's width.
+edge-bounded : {depth : ℕ} {e : Edge} → OnCell (tile depth) e
+    → Bounded dimensions depth (span depth 0 * span depth 0) (λ j cell. span depth 0 * span depth 0) (edgeTable depth e)
+unfolding rootTerm
+edge-bounded {depth} {e} on = record {
+  root-within = difference-on (range-mul (from-zero (on .x1)) (from-zero (on .y0))) (range-mul (from-zero (on .x0)) (from-zero (on .y1)));
+  detail-within = λ j i cell b k m n.
+      let c = square depth j cell in
+      let w≥0 = nonneg (span depth j) in
+      let x = run-le j (difference-on (on .x0) (on .x1)) in
+      let y = run-le j (difference-on (on .y0) (on .y1)) in
+      by-number (Within (pos (s * s))) (details e c)
+      (within-le y (rounded-h-bound e c w≥0)) (within-le x (rounded-v-bound e c w≥0)) (within-le y (rounded-d-bound e c w≥0)) k m n;
+}
+  where
+    s : ℕ
+    s = span depth 0
+
+    from-zero : {p : ℤ} → OnRange (pos (0 * s)) (pos s) p → OnRange (pos 0) (pos s) p
+    from-zero {p} h = subst (λ n. OnRange (pos n) (pos s) p) (zero-mul s) h
+
+    run-le : {run : ℤ} (j : ℕ) → Within (pos s) run → (abs run *ℤ pos (span depth j)) ≤ℤ pos (s * s)
+    run-le {run} j h =
+        let narrow : span depth j ≤ s = width-le (sub-le-sub-left {n = 0} (omega arith) depth) in
+        within-mul (within-le (abs-of-within h) (within-self (abs-nonneg run)))
+        (within-le (pos-≤ℤ narrow) (within-self (nonneg (span depth j)))) .high
+
+-- ---- what all of them add
+total-bounded : (b : ℕ) (f : Edge → ℤ) (es : List Edge) → All (λ e. Within (pos b) (f e)) es → Within (pos (length es * b)) (total f es)
+total-bounded b f es h = within-is (total-const (pos b) es) refl (total-within (λ e. pos b) f es h)
+
+pub entries-bounded : {depth : ℕ} (es : List Edge) → All (OnCell (tile depth)) es
+    → Bounded dimensions depth (length es * (span depth 0 * span depth 0)) (λ j cell. length es * (span depth 0 * span depth 0))
+    (outlineTable depth es)
+entries-bounded {depth} es on =
+    let b = span depth 0 * span depth 0 in
+    record {
+      root-within = total-bounded b rootTerm es (all-map (λ e h. edge-bounded {depth = depth} h .root-within) es on);
+      detail-within = λ j i cell c k m n.
+          total-bounded b (λ e. edgeTable depth e .detail j cell k) es (all-map (λ e h. edge-bounded h .detail-within j i cell c k m n) es on);
+    }
+
+pub built-entries : {depth : ℕ} (es : List Edge) → All (OnCell (tile depth)) es → depth ≤ greatestDepth → length es ≤ mostEdges
+    → Bounded dimensions depth builtEntryLimit (λ j cell. builtEntryLimit) (outlineTable depth es)
+built-entries {depth} es on g h =
+    let s : span depth 0 ≤ greatestCoordinate = width-le (le-trans (sub-le depth 0) g) in
+    let b = pos-≤ℤ (mul-le-mul h (mul-le-mul s s)) in
+    let t = entries-bounded es on in
+    record {
+      root-within = within-le b (t .root-within);
+      detail-within = λ j i cell c k m n. within-le b (t .detail-within j i cell c k m n);
+    }

@@ -1,0 +1,53 @@
+-- What the figures would be without rounding: 4^L times the exact areas.
+--
+-- Main results
+--   exactTable depth es          the table with its details as they are before rounding, `denominator es` times over
+--   exact-figure                 its figures are 4^L times the exact areas
+use mathlib.Core.Path.{_≡_, sym, _∙_, ap, ap₂}
+use mathlib.Core.List.{List, [], _∷_}
+use Prim.Native.Nat.{ℕ, suc, _/_, _%_, _^_, _<_, _≤_}
+use native.Mathlib.Omega.{arith}
+use lib.IntN.{pos, negsuc, _+ℤ_, _*ℤ_}
+use Rattle.integers.specs.Ring.{read, comb, _⊗_}
+use Rattle.edge.specs.declared.Edge.{Edge}
+use Rattle.haar.specs.Cells.{Cell, Below, parent, childNumber}
+use Rattle.haar.specs.Table.{Coefficients}
+use Rattle.haar.specs.Figures.{signedDetails, figure}
+use Rattle.haar.specs.Plane.{dimensions, hDetail, vDetail, dDetail, at}
+use Rattle.haar.specs.Laws.Areas.{figure-area}
+use Rattle.haar.specs.Laws.Quarters.{parent-at, signedDetails-quarter}
+use Rattle.accuracy.specs.Outline.{signedArea}
+use Rattle.accuracy.specs.Tile.{tile}
+use Rattle.accuracy.specs.ExactArea.{denominator, areaOver}
+use Rattle.accuracy.specs.OutlineTable.{detailOver}
+use Rattle.accuracy.specs.Laws.Closed.{Closed, ClosedOnTile}
+use Rattle.accuracy.specs.Laws.OutlineQuarter.{outline-quarter}
+use Rattle.accuracy.specs.Laws.OutlineWhole.{edges-whole}
+
+abbrev pub exactTable : ℕ → List Edge → Coefficients dimensions
+exactTable depth es = record { root = signedArea es *ℤ pos (denominator es); detail = detailOver depth es }
+
+only-cell : (cell : Cell dimensions) → Below dimensions 1 cell → cell ≡ at 0 0
+only-cell (cx, (cy, rest)) (i, (j, none)) =
+    let x : cx ≡ 0 = omega arith in
+    let y : cy ≡ 0 = omega arith in
+    ap₂ at x y
+
+part : {es : List Edge} → Closed es → (depth j : ℕ) → j < depth → (cell : Cell dimensions)
+    → pos 4 *ℤ areaOver depth es (suc j) cell
+    ≡ areaOver depth es j (parent dimensions cell) +ℤ signedDetails dimensions (detailOver depth es j (parent dimensions cell)) (childNumber dimensions cell)
+part {es} closed depth j h (cx, (cy, rest)) =
+    let area = areaOver depth es j (at (cx / 2) (cy / 2)) in
+    let w = detailOver depth es j (at (cx / 2) (cy / 2)) in
+    let signed = signedDetails dimensions w (childNumber dimensions (at cx cy)) in
+    outline-quarter closed depth j cx cy h
+    ∙ comb (area ∷ signed ∷ pos (cx % 2) ∷ pos (cy % 2) ∷ w hDetail ∷ w vDetail ∷ w dDetail ∷ []) (negsuc 0 ⊗ signedDetails-quarter w cx cy) (search read depth 40) tt
+    ∙ ap (λ q. areaOver depth es j q +ℤ signedDetails dimensions (detailOver depth es j q) (childNumber dimensions (at cx cy))) (sym (parent-at cx cy))
+
+pub exact-figure : {depth : ℕ} {es : List Edge} → ClosedOnTile depth es → (level : ℕ) → level ≤ depth → (cell : Cell dimensions) → Below dimensions (2 ^ level) cell
+    → figure dimensions (exactTable depth es) level cell ≡ pos (4 ^ level) *ℤ areaOver depth es level cell
+exact-figure {depth} {es} o =
+    figure-area {n = dimensions} {t = exactTable depth es} {a = areaOver depth es} (record {
+      whole = λ cell b. ap (areaOver depth es 0) (only-cell cell b) ∙ edges-whole (o .closed) (tile depth) (o .on-tile);
+      part = λ j h cell b. part (o .closed) depth j h cell;
+    })

@@ -1,0 +1,70 @@
+-- The reversed outline has the opposite table: with every edge reversed, and with every contour walked the other way.
+--
+-- Main results
+--   outlineTable-reverse         the reversed edges have the opposite table
+--   contourEdges-reverse         a contour's points backwards: its edges reversed, in another order
+--   outlineEdges-reverse         the same of every contour of an outline
+--   outline-reversed             the outline so walked has the opposite table
+use mathlib.Core.Path.{_≡_, refl, _∙_, ap, ap₂, fun-ext}
+use mathlib.Core.List.{List, [], _∷_, _++_, map, map-append, reverse as backwards, reverse-cons}
+use mathlib.Core.List.{Perm, Perm·nil, Perm·refl, Perm·cons, Perm·swap, Perm·trans, Perm·symm, Perm·append}
+use Prim.Native.Nat.{ℕ}
+use lib.IntN.{ℤ, negℤ}
+use Rattle.integers.specs.ListSum.{all-of, total, total-cong, total-neg, total-map}
+use Rattle.edge.specs.declared.Edge.{Edge}
+use Rattle.edge.specs.declared.Cell.{Cell as Square}
+use Rattle.edge.specs.Rounded.{details, rootTerm}
+use Rattle.edge.specs.Laws.Reversal.{reverse, details-reverse, root-reverse}
+use Rattle.accuracy.specs.Outline.{Point, edgeBetween, through, contourEdges, outlineEdges}
+use Rattle.accuracy.specs.Tile.{square}
+use Rattle.accuracy.specs.OutlineTable.{numbered, edgeTable, outlineTable, negated}
+use Rattle.accuracy.specs.Laws.Numbered.{numbered-each}
+use Rattle.accuracy.specs.Laws.Order.{outlineTable-perm}
+
+-- ---- every edge reversed
+total-reverse : (f : Edge → ℤ) → ((e : Edge) → f (reverse e) ≡ negℤ (f e)) → (es : List Edge) → total f (map reverse es) ≡ negℤ (total f es)
+total-reverse f h es = total-map f reverse es ∙ total-cong (λ e. f (reverse e)) (λ e. negℤ (f e)) es (all-of h es) ∙ total-neg f es
+
+numbered-reverse : (e : Edge) (s : Square) (k : ℕ) → numbered (details (reverse e) s) k ≡ negℤ (numbered (details e s) k)
+numbered-reverse e s k = ap (λ w. numbered w k) (details-reverse e s) ∙ numbered-each negℤ refl (details e s) k
+
+pub outlineTable-reverse : (depth : ℕ) (es : List Edge) → outlineTable depth (map reverse es) ≡ negated (outlineTable depth es)
+outlineTable-reverse depth es =
+    ap₂ (λ r d. record { root = r; detail = d }) (total-reverse rootTerm root-reverse es)
+    (fun-ext λ j. fun-ext λ cell. fun-ext λ k. total-reverse (λ e. edgeTable depth e .detail j cell k) (λ e. numbered-reverse e (square depth j cell) k) es)
+
+-- ---- every contour walked the other way
+-- the last of the points between comes by itself: an edge leads on from it, and the others lead to it
+through-last : (p : Point) (qs : List Point) (q last : Point) → Perm (through p (qs ++ (q ∷ [])) last) (edgeBetween q last ∷ through p qs q)
+unfolding through
+through-last p [] q last = Perm·swap (edgeBetween q last) (edgeBetween p q) []
+through-last p (r ∷ qs) q last =
+    Perm·trans (Perm·cons (edgeBetween p r) (through-last r qs q last)) (Perm·swap (edgeBetween q last) (edgeBetween p r) (through r qs q))
+
+through-reverse : (p : Point) (qs : List Point) (last : Point) → Perm (through last (backwards qs) p) (map reverse (through p qs last))
+unfolding through
+through-reverse p [] last = Perm·refl (edgeBetween last p ∷ [])
+through-reverse p (q ∷ qs) last =
+    rw (reverse-cons q qs) (Perm·trans (through-last last (backwards qs) q p) (Perm·cons (edgeBetween q p) (through-reverse q qs last)))
+
+-- a contour has the same edges if it begins at its last point; and backwards, the first point is the last
+contourEdges-last : (qs : List Point) (p : Point) → Perm (contourEdges (qs ++ (p ∷ []))) (contourEdges (p ∷ qs))
+unfolding contourEdges through
+contourEdges-last [] p = Perm·refl (through p [] p)
+contourEdges-last (q ∷ qs) p = through-last q qs p q
+
+pub contourEdges-reverse : (ps : List Point) → Perm (contourEdges (backwards ps)) (map reverse (contourEdges ps))
+unfolding contourEdges
+contourEdges-reverse [] = Perm·nil
+contourEdges-reverse (p ∷ ps) = rw (reverse-cons p ps) (Perm·trans (contourEdges-last (backwards ps) p) (through-reverse p ps p))
+
+pub outlineEdges-reverse : (cs : List (List Point)) → Perm (outlineEdges (map backwards cs)) (map reverse (outlineEdges cs))
+unfolding outlineEdges
+outlineEdges-reverse [] = Perm·nil
+outlineEdges-reverse (c ∷ cs) =
+    rw (map-append reverse (contourEdges c) (outlineEdges cs)) (Perm·append (contourEdges-reverse c) (outlineEdges-reverse cs))
+
+-- as 01's letters B and H are A and G reversed
+pub outline-reversed : (depth : ℕ) (cs : List (List Point))
+    → outlineTable depth (outlineEdges (map backwards cs)) ≡ negated (outlineTable depth (outlineEdges cs))
+outline-reversed depth cs = outlineTable-perm depth (Perm·symm (outlineEdges-reverse cs)) ∙ outlineTable-reverse depth (outlineEdges cs)

@@ -1,0 +1,17 @@
+-- From an outline to how near its figures and greys are to its exact areas. Read in this order.
+
+-- ---- what is spoken of
+-- points, contours, edges
+pub mod Outline
+-- the tile and its cells
+pub mod Tile
+-- the exact area of a cell, as a fraction
+pub mod ExactArea
+-- the table: sums over the edges of rounded details
+pub mod OutlineTable
+-- ---- the claim
+pub mod Accurate
+-- ---- and that it holds
+pub mod Theorem
+-- ---- how it is proved
+pub mod Laws

@@ -1,0 +1,38 @@
+-- An outline and its edges.
+--
+-- Definitions
+--   Point                        a point, in 01's steps of 1/256 pixel
+--   edgeBetween p q              the edge from p to q
+--   through p qs last            the edges from p through the points qs to the last
+--   contourEdges, outlineEdges   the edges of one contour, and of all contours of an outline
+--   signedArea es                the signed area that edges enclose, in 01's units of half a square step
+use mathlib.Core.List.{List, [], _∷_, _++_}
+use lib.IntN.{ℤ}
+use Rattle.integers.specs.ListSum.{total}
+use Rattle.edge.specs.declared.Edge.{Edge}
+use Rattle.edge.specs.Rounded.{rootTerm}
+
+pub record Point : Type 0 where
+  pub x : ℤ
+  pub y : ℤ
+
+abbrev pub edgeBetween : Point → Point → Edge
+edgeBetween p q = record { x0 = p .x; y0 = p .y; x1 = q .x; y1 = q .y }
+
+unfoldable pub through : Point → List Point → Point → List Edge
+through p [] last = edgeBetween p last ∷ []
+through p (q ∷ qs) last = edgeBetween p q ∷ through q qs last
+
+-- "Its last point joins its first. The edges are as many as the points."
+unfoldable pub contourEdges : List Point → List Edge
+contourEdges [] = []
+contourEdges (p ∷ ps) = through p ps p
+
+-- an outline is a list of contours, each a list of points; none at all is one too
+unfoldable pub outlineEdges : List (List Point) → List Edge
+outlineEdges [] = []
+outlineEdges (c ∷ cs) = contourEdges c ++ outlineEdges cs
+
+-- "Signed area in units is the sum over edges of x0 × y1 − x1 × y0; negative for an anticlockwise contour."
+abbrev pub signedArea : List Edge → ℤ
+signedArea es = total rootTerm es

@@ -1,0 +1,44 @@
+-- The tile of side 2^depth pixels, and its cells as squares, in steps.
+--
+-- Definitions
+--   span depth level             how wide a cell of a level is
+--   square depth level cell      the square of a cell
+--   tile depth                   the whole tile, which is the cell of level 0
+--   OnTile depth p               a point on the tile
+--   CellOf depth level cx cy     cell (cx, cy) of a level that the tile has
+use Prim.Native.Nat.{ℕ, _*_, _-_, _^_, _<_, _≤_}
+use lib.IntN.{pos}
+use lib.Signed.{_≤ℤ_}
+use Rattle.integers.specs.Units.{stepsPerPixel}
+use Rattle.edge.specs.declared.Cell.{Cell as Square}
+use Rattle.haar.specs.Cells.{Cell}
+use Rattle.haar.specs.Plane.{dimensions, at}
+use Rattle.accuracy.specs.Outline.{Point}
+
+-- "A step is 1/256 pixel", and each level halves the width: a cell of level `depth` is a pixel, and that of level 0 is the tile
+abbrev pub span : ℕ → ℕ → ℕ
+span depth level = stepsPerPixel * 2 ^ (depth - level)
+
+-- "Level j has 2^j by 2^j cells", cell (cx, cy) being cx widths from the left side and cy from the top: "x grows to the right, y downwards"
+abbrev pub square : ℕ → ℕ → Cell dimensions → Square
+square depth level (cx, (cy, rest)) = record {
+  left = pos (cx * span depth level);
+  top = pos (cy * span depth level);
+  width = pos (span depth level);
+}
+
+abbrev pub tile : ℕ → Square
+tile depth = square depth 0 (at 0 0)
+
+-- "A point has whole x and y from 0 to 256 × side, both ends allowed."
+pub record OnTile (depth : ℕ) (p : Point) : Type 0 where
+  pub x-low : pos 0 ≤ℤ p .x
+  pub x-high : p .x ≤ℤ pos (span depth 0)
+  pub y-low : pos 0 ≤ℤ p .y
+  pub y-high : p .y ≤ℤ pos (span depth 0)
+
+-- "any level L from 0 to the depth", and "both cell numbers below 2^level"
+pub record CellOf (depth level cx cy : ℕ) : Type 0 where
+  pub level-to-depth : level ≤ depth
+  pub x-below : cx < 2 ^ level
+  pub y-below : cy < 2 ^ level
