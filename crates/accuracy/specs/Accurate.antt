@@ -3,7 +3,9 @@
 -- An exact area is the fraction `exactArea / denominator`, so an equation or a bound of it stands here `denominator es` times over.
 --
 -- Definitions
---   miss depth es level cx cy         how far it lies from 4^level times the exact area
+--   miss depth es level cx cy         how far the figure of a cell lies from 4^level times its exact area
+--   missLimit level edges             twice the most that it may miss by
+--   quarterOf area w a b              area ± h ± v ± d, with the signs of quarter (a, b)
 --   Accurate depth es                 all that is promised of the edges es of an outline on a tile of side 2^depth
 use mathlib.Core.Path.{_≡_}
 use mathlib.Core.List.{List, Perm, map}
@@ -31,19 +33,25 @@ use Rattle.accuracy.specs.OutlineTable.{outlineTable, negated, exactDeta
 abbrev pub miss : ℕ → List Edge → ℕ → ℕ → ℕ → ℤ
 miss depth es level cx cy = figureAt (outlineTable depth es) level cx cy *ℤ pos (denominator es) -ℤ pos (4 ^ level) *ℤ exactArea depth es level cx cy
 
+-- 01's limit is half of this
+abbrev pub missLimit : ℕ → ℕ → ℕ
+missLimit level edges = (4 ^ level - 1) * edges
+
+-- "h plus on the left, v plus above, d plus in the upper left and lower right": a is 0 on the left and 1 on the right, b is 0 above and 1 below
+abbrev pub quarterOf : ℤ → (ℕ → ℤ) → ℕ → ℕ → ℤ
+quarterOf area w a b = area +ℤ halfSign a *ℤ w hDetail +ℤ halfSign b *ℤ w vDetail +ℤ halfSign a *ℤ halfSign b *ℤ w dDetail
+
 pub record Accurate (depth : ℕ) (es : List Edge) : Type 0 where
   pub denominator-positive : 0 < denominator es
   -- ---- the wavelet: the root is the exact area of the tile, and 4 × area(quarter) = area ± h ± v ± d
   pub whole : exactArea depth es 0 0 0 ≡ signedArea es *ℤ pos (denominator es)
   pub quarter : (j cx cy : ℕ) → j < depth
       → pos 4 *ℤ exactArea depth es (suc j) cx cy
-      ≡ exactArea depth es j (cx / 2) (cy / 2)
-      +ℤ halfSign (cx % 2) *ℤ exactDetail depth es j (cx / 2) (cy / 2) hDetail
-      +ℤ halfSign (cy % 2) *ℤ exactDetail depth es j (cx / 2) (cy / 2) vDetail
-      +ℤ halfSign (cx % 2) *ℤ halfSign (cy % 2) *ℤ exactDetail depth es j (cx / 2) (cy / 2) dDetail
-  -- ---- "A level L figure differs from 4^L times the exact area by at most (4^L − 1) × edges / 2"
+      ≡ quarterOf (exactArea depth es j (cx / 2) (cy / 2)) (exactDetail depth es j (cx / 2) (cy / 2)) (cx % 2) (cy % 2)
+  -- ---- what is drawn
+  -- "A level L figure differs from 4^L times the exact area by at most (4^L − 1) × edges / 2"
   pub close : (level cx cy : ℕ) → CellOf depth level cx cy
-      → (pos 2 *ℤ abs (miss depth es level cx cy)) ≤ℤ pos ((4 ^ level - 1) * length es * denominator es)
+      → (pos 2 *ℤ abs (miss depth es level cx cy)) ≤ℤ pos (missLimit level (length es) * denominator es)
   -- "It is equal where every edge is level, upright or at 45 degrees."
   pub equal : All Octilinear es → (level cx cy : ℕ) → CellOf depth level cx cy → miss depth es level cx cy ≡ pos 0
   -- "Each grey is at most one from the exact area's grey", which "comes by the rule above from 4^L times the cell's exact area in place of the figure"

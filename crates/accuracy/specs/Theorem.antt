@@ -4,8 +4,9 @@
 --   edges-accurate               for every list of closed edges on the tile
 --   outline-accurate             and so for every outline: any list of contours whose points lie on the tile
 use mathlib.Core.List.{List}
-use Prim.Native.Nat.{ℕ, _^_}
-use lib.ListN.{length}
+use Prim.Native.Nat.{ℕ, _-_, _^_, _≤_}
+use native.Mathlib.Omega.{arith}
+use native.Mathlib.Nat.{pow-le-pow-right}
 use lib.IntN.{pos, _*ℤ_}
 use Rattle.integers.specs.Within.{scaled-abs-of-within}
 use Rattle.integers.specs.ListSum.{All, all-of}
@@ -40,8 +41,9 @@ edges-accurate {depth} {es} o =
       close = λ level cx cy c. scaled-abs-of-within 2 (miss depth es level cx cy) (miss-within o level cx cy c);
       equal = miss-zero o;
       greys = λ few level cx cy c.
-          close-greys depth level (length es) (denominator es) (figureAt (outlineTable depth es) level cx cy) (pos (4 ^ level) *ℤ exactArea depth es level cx cy)
-          (c .level-to-depth) few fraction (miss-within o level cx cy c);
+          let cells : 4 ^ level - 1 ≤ 4 ^ depth = omega (arith, pow-le-pow-right {n = 4} (omega arith) (c .level-to-depth)) in
+          close-greys depth (denominator es) (figureAt (outlineTable depth es) level cx cy) (pos (4 ^ level) *ℤ exactArea depth es level cx cy)
+          cells few fraction (miss-within o level cx cy c);
       totals = picture-total dimensions (outlineTable depth es);
       entries = built-entries es (o .on-tile);
       any-order = λ fs p. outlineTable-perm depth p;

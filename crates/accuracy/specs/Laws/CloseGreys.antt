@@ -1,11 +1,11 @@
--- Figures that miss by at most (4^level − 1) × edges / 2 have greys at most one apart, where the edges are at most `mostEdges`.
+-- Figures that miss by little have greys at most one apart: half a unit for each of at most `mostEdges` edges, as many times as the tile has pixels at most.
 --
 -- Main results
 --   close-greys                  the grey of a figure f and that of a fraction a / den, so near to each other
 use mathlib.Core.List.{[], _∷_}
-use Prim.Native.Nat.{ℕ, _*_, _-_, _^_, _<_, _≤_}
+use Prim.Native.Nat.{ℕ, _*_, _^_, _<_, _≤_}
 use native.Mathlib.Omega.{arith}
-use native.Mathlib.Nat.{mul-le-mul, mul-le-mul-left, mul-le-mul-right, one-le-pow, pow-le-pow-right}
+use native.Mathlib.Nat.{mul-le-mul, mul-le-mul-left, mul-le-mul-right, one-le-pow}
 use lib.IntN.{ℤ, pos, _-ℤ_, _*ℤ_}
 use Rattle.integers.specs.Units.{unitsPerPixel, mostEdges, fullGrey}
 use Rattle.integers.specs.Ring.{read, ring}
@@ -30,10 +30,10 @@ scaled-miss-within g u den x {m} {n} {p} {q} room few small w =
     let facts = bounds (within-scale g w) & le more & le (pos-≤ℤ (mul-le-mul-right (q * den) room)) in
     record { low = lin≤ ρ facts (search linear depth 40) tt; high = lin≤ ρ facts (search linear depth 40) tt }
 
-pub close-greys : (depth level edges den : ℕ) (f a : ℤ) → level ≤ depth → edges ≤ mostEdges → 0 < den
-    → Within (pos ((4 ^ level - 1) * edges * den)) (pos 2 *ℤ (f *ℤ pos den -ℤ a)) → OneApart (greyOf (2 ^ depth) f) (grey (2 ^ depth) a den)
-close-greys depth level edges den f a l h d w =
-    let cells : 4 ^ level - 1 ≤ 2 ^ depth * 2 ^ depth = omega (arith, level-square depth, pow-le-pow-right {n = 4} (omega arith) l) in
-    let near = scaled-miss-within fullGrey unitsPerPixel den (f *ℤ pos den -ℤ a) most-edges-within-grey h cells w in
+pub close-greys : (depth : ℕ) {p edges : ℕ} (den : ℕ) (f a : ℤ) → p ≤ 4 ^ depth → edges ≤ mostEdges → 0 < den
+    → Within (pos (p * edges * den)) (pos 2 *ℤ (f *ℤ pos den -ℤ a)) → OneApart (greyOf (2 ^ depth) f) (grey (2 ^ depth) a den)
+close-greys depth {p} den f a l h d w =
+    let pixels : p ≤ 2 ^ depth * 2 ^ depth = omega (arith, level-square depth) in
+    let near = scaled-miss-within fullGrey unitsPerPixel den (f *ℤ pos den -ℤ a) most-edges-within-grey h pixels w in
     greys-one-apart (one-le-pow depth 2 (omega arith)) f a (omega arith) d
     (within-is (ring (pos (2 ^ depth) ∷ pos den ∷ []) (search read depth 40) tt) (ring (f ∷ a ∷ pos den ∷ []) (search read depth 40) tt) near)

@@ -29,7 +29,7 @@ use Rattle.accuracy.specs.Outline.{signedArea}
 use Rattle.accuracy.specs.Tile.{CellOf}
 use Rattle.accuracy.specs.ExactArea.{denominator, exactArea}
 use Rattle.accuracy.specs.OutlineTable.{outlineTable, detailOver}
-use Rattle.accuracy.specs.Accurate.{miss}
+use Rattle.accuracy.specs.Accurate.{miss, missLimit}
 use Rattle.accuracy.specs.Laws.Closed.{ClosedOnTile}
 use Rattle.accuracy.specs.Laws.ExactFigures.{exactTable, exact-figure}
 use Rattle.accuracy.specs.Laws.RoundingErrors.{Misses, misses-inside, misses-octilinear, detail-misses}
@@ -65,24 +65,24 @@ module _ {depth : ℕ} {es : List Edge} (o : ClosedOnTile depth es) where
       scaled : bound dimensions (0 * D) (λ j cell. tally (k j cell) es * D) level (at cx cy) ≡ bound dimensions 0 (λ j cell. tally (k j cell) es) level (at cx cy) * D
       scaled = bound-scale dimensions 0 (λ j cell. tally (k j cell) es) D level (at cx cy)
 
-  -- the cells above have details 4^L − 1 times over: where each contributes n, (4^L − 1) × n
-  bound-same : (n level cx cy : ℕ) → bound dimensions 0 (λ j cell. n) level (at cx cy) ≡ (4 ^ level - 1) * n
+  -- the cells above have 4^L − 1 details, each counted 4^j times: where every cell contributes n, (4^L − 1) × n
+  bound-same : (n level cx cy : ℕ) → bound dimensions 0 (λ j cell. n) level (at cx cy) ≡ missLimit level n
   bound-same n level cx cy =
       let b : bound dimensions 0 (λ j cell. n) level (at cx cy) + n ≡ 4 ^ level * n + 0 = bound-const dimensions 0 n level (at cx cy) in
       let p : 4 ^ level ≡ 4 ^ level - 1 + 1 = omega (arith, one-le-pow level 4 (omega arith)) in
       omega (arith, b, ap (λ m. m * n) p)
 
   pub miss-within : (level cx cy : ℕ) → CellOf depth level cx cy
-      → Within (pos ((4 ^ level - 1) * length es * denominator es)) (pos 2 *ℤ miss depth es level cx cy)
+      → Within (pos (missLimit level (length es) * denominator es)) (pos 2 *ℤ miss depth es level cx cy)
   miss-within level cx cy c =
       let all : tally (λ e. 1) es ≡ length es = omega (arith, tally-const 1 es) in
-      within-is (ap (λ n. pos (n * denominator es)) (bound-same (tally (λ e. 1) es) level cx cy ∙ ap (λ n. (4 ^ level - 1) * n) all)) refl
+      within-is (ap (λ n. pos (n * denominator es)) (bound-same (tally (λ e. 1) es) level cx cy ∙ ap (missLimit level) all)) refl
       (miss-by-edges (misses-inside depth es (λ j cell e. 1) (λ j cell e n. absurd (omega arith))) level cx cy c)
 
   pub miss-zero : All Octilinear es → (level cx cy : ℕ) → CellOf depth level cx cy → miss depth es level cx cy ≡ pos 0
   miss-zero s level cx cy c =
       let none : tally (λ e. 0) es ≡ 0 = omega (arith, tally-const 0 es) in
       let b : bound dimensions 0 (λ j cell. tally (λ e. 0) es) level (at cx cy) * denominator es ≡ 0 =
-      omega (arith, ap (λ n. n * denominator es) (bound-same (tally (λ e. 0) es) level cx cy ∙ ap (λ n. (4 ^ level - 1) * n) none)) in
+      omega (arith, ap (λ n. n * denominator es) (bound-same (tally (λ e. 0) es) level cx cy ∙ ap (missLimit level) none)) in
       lin≡ (miss depth es level cx cy ∷ [])
       (eq (zero-of-within (within-is (ap pos b) refl (miss-by-edges (misses-octilinear depth s) level cx cy c)))) (search linear depth 40) (tt, tt)

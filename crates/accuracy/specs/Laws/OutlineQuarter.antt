@@ -20,10 +20,11 @@ use Rattle.edge.specs.declared.Cell.{Cell as Square}
 use Rattle.edge.specs.Walk.{steps}
 use Rattle.edge.specs.Integrals.{areaNum, hNum, vNum, dNum}
 use Rattle.edge.specs.Laws.Quarter.{quarter, boundary, edge-quarter}
-use Rattle.haar.specs.Plane.{hDetail, vDetail, dDetail, at}
+use Rattle.haar.specs.Plane.{at}
 use Rattle.accuracy.specs.Tile.{span, square}
 use Rattle.accuracy.specs.ExactArea.{exactArea}
 use Rattle.accuracy.specs.OutlineTable.{numbered, exactDetail}
+use Rattle.accuracy.specs.Accurate.{quarterOf}
 use Rattle.accuracy.specs.Laws.Closed.{gain, Closed}
 use Rattle.accuracy.specs.Laws.Squares.{span-halves, square-quarter}
 
@@ -72,10 +73,7 @@ module _ {es : List Edge} (closed : Closed es) where
 -- ---- the cells of a tile
 pub outline-quarter : {es : List Edge} → Closed es → (depth j cx cy : ℕ) → j < depth
     → pos 4 *ℤ exactArea depth es (suc j) cx cy
-    ≡ exactArea depth es j (cx / 2) (cy / 2)
-    +ℤ halfSign (cx % 2) *ℤ exactDetail depth es j (cx / 2) (cy / 2) hDetail
-    +ℤ halfSign (cy % 2) *ℤ exactDetail depth es j (cx / 2) (cy / 2) vDetail
-    +ℤ halfSign (cx % 2) *ℤ halfSign (cy % 2) *ℤ exactDetail depth es j (cx / 2) (cy / 2) dDetail
+    ≡ quarterOf (exactArea depth es j (cx / 2) (cy / 2)) (exactDetail depth es j (cx / 2) (cy / 2)) (cx % 2) (cy % 2)
 unfolding numbered
 outline-quarter {es} closed depth j cx cy h =
     ap (λ c. pos 4 *ℤ numer steps (λ e. areaNum e c) es) (square-quarter depth j cx cy h)
