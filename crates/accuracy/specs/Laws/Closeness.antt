@@ -2,7 +2,7 @@
 -- misses by is itself the figure of a table, that of the errors, since figures are linear in the table.
 --
 -- Main results
---   miss-by-edges                in half units, at most the sum over the levels j above of 3 × 4^j times what the edges miss by in that level's cell
+--   miss-by-edges                in half units, at most the sum over the levels j above of 3 × 4^j times the edges counted in that level's cell
 --   miss-within                  so at most (4^L − 1) × edges half units
 --   miss-zero                    and nothing, where every edge is level, upright or at 45 degrees
 use mathlib.Core.Path.{_≡_, refl, _∙_, ap}
@@ -21,7 +21,6 @@ use Rattle.edge.specs.declared.Edge.{Edge}
 use Rattle.edge.specs.Octilinear.{Octilinear}
 use Rattle.haar.specs.Cells.{Cell}
 use Rattle.haar.specs.Table.{Coefficients}
-use Rattle.haar.specs.Figures.{figure}
 use Rattle.haar.specs.Plane.{dimensions, at, figureAt}
 use Rattle.haar.specs.Laws.FigureBounds.{bound, Bounded, figure-within, bound-const, bound-scale}
 use Rattle.haar.specs.Laws.FigureLinear.{combine, figure-linear}
@@ -32,52 +31,56 @@ use Rattle.accuracy.specs.OutlineTable.{outlineTable, detailOver}
 use Rattle.accuracy.specs.Accurate.{miss, missLimit}
 use Rattle.accuracy.specs.Laws.Closed.{ClosedOnTile}
 use Rattle.accuracy.specs.Laws.ExactFigures.{exactTable, exact-figure}
-use Rattle.accuracy.specs.Laws.RoundingErrors.{Misses, misses-inside, misses-octilinear, detail-misses}
+use Rattle.accuracy.specs.Laws.RoundingErrors.{Counts, counts-inside, counts-octilinear, detail-misses}
 
 -- twice the errors of the table's entries, `denominator es` times over
 abbrev errors : ℕ → List Edge → Coefficients dimensions
 errors depth es = combine (pos 2 *ℤ pos (denominator es)) (outlineTable depth es) (negsuc 1) (exactTable depth es)
 
+-- where every cell above contributes n: 3 × (1 + 4 + .. + 4^(L − 1)) = 4^L − 1 times n
+bound-same : (n level cx cy : ℕ) → bound dimensions 0 (λ j cell. n) level (at cx cy) ≡ missLimit level n
+bound-same n level cx cy =
+    let b : bound dimensions 0 (λ j cell. n) level (at cx cy) + n ≡ 4 ^ level * n + 0 = bound-const dimensions 0 n level (at cx cy) in
+    let p : 4 ^ level ≡ 4 ^ level - 1 + 1 = omega (arith, one-le-pow level 4 (omega arith)) in
+    omega (arith, b, ap (λ m. m * n) p)
+
 module _ {depth : ℕ} {es : List Edge} (o : ClosedOnTile depth es) where
-  errors-figure : (level cx cy : ℕ) → CellOf depth level cx cy → figure dimensions (errors depth es) level (at cx cy) ≡ pos 2 *ℤ miss depth es level cx cy
+  errors-figure : (level cx cy : ℕ) → CellOf depth level cx cy → figureAt (errors depth es) level cx cy ≡ pos 2 *ℤ miss depth es level cx cy
   errors-figure level cx cy c =
       figure-linear dimensions (pos 2 *ℤ pos (denominator es)) (outlineTable depth es) (negsuc 1) (exactTable depth es) level (at cx cy)
-      ∙ comb (figureAt (outlineTable depth es) level cx cy ∷ pos (denominator es) ∷ figure dimensions (exactTable depth es) level (at cx cy) ∷ pos (4 ^ level) ∷ exactArea depth es level cx cy ∷ [])
+      ∙ comb
+      (figureAt (outlineTable depth es) level cx cy ∷ figureAt (exactTable depth es) level cx cy ∷ exactArea depth es level cx cy
+      ∷ pos (denominator es) ∷ pos (4 ^ level) ∷ [])
       (negsuc 1 ⊗ exact-figure o level (c .level-to-depth) (at cx cy) (c .x-below, (c .y-below, tt))) (search read depth 40) tt
 
-  pub miss-by-edges : {k : ℕ → Cell dimensions → Edge → ℕ} → Misses depth es k → (level cx cy : ℕ) → CellOf depth level cx cy
+  pub miss-by-edges : {k : ℕ → Cell dimensions → Edge → ℕ} → Counts depth es k → (level cx cy : ℕ) → CellOf depth level cx cy
       → Within (pos (bound dimensions 0 (λ j cell. tally (k j cell) es) level (at cx cy) * denominator es)) (pos 2 *ℤ miss depth es level cx cy)
-  miss-by-edges {k} m level cx cy c =
+  miss-by-edges {k} n level cx cy c =
       within-is (ap pos scaled) (errors-figure level cx cy c)
       (figure-within bounded level (c .level-to-depth) (at cx cy) (c .x-below, (c .y-below, tt)))
     where
       D : ℕ
       D = denominator es
 
+      -- the root is exact
       bounded : Bounded dimensions depth (0 * D) (λ j cell. tally (k j cell) es * D) (errors depth es)
       bounded = record {
         root-within = within-is refl (ring (signedArea es ∷ pos D ∷ []) (search read depth 40) tt) (within-self (nonneg (0 * D)));
         detail-within = λ j h cell b d i l.
             within-is refl (ring (outlineTable depth es .detail j cell d ∷ detailOver depth es j cell d ∷ pos D ∷ []) (search read depth 40) tt)
-            (detail-misses m j h cell d i l);
+            (detail-misses n j h cell d i l);
       }
 
-      scaled : bound dimensions (0 * D) (λ j cell. tally (k j cell) es * D) level (at cx cy) ≡ bound dimensions 0 (λ j cell. tally (k j cell) es) level (at cx cy) * D
+      scaled : bound dimensions (0 * D) (λ j cell. tally (k j cell) es * D) level (at cx cy)
+          ≡ bound dimensions 0 (λ j cell. tally (k j cell) es) level (at cx cy) * D
       scaled = bound-scale dimensions 0 (λ j cell. tally (k j cell) es) D level (at cx cy)
-
-  -- the cells above have 4^L − 1 details, each counted 4^j times: where every cell contributes n, (4^L − 1) × n
-  bound-same : (n level cx cy : ℕ) → bound dimensions 0 (λ j cell. n) level (at cx cy) ≡ missLimit level n
-  bound-same n level cx cy =
-      let b : bound dimensions 0 (λ j cell. n) level (at cx cy) + n ≡ 4 ^ level * n + 0 = bound-const dimensions 0 n level (at cx cy) in
-      let p : 4 ^ level ≡ 4 ^ level - 1 + 1 = omega (arith, one-le-pow level 4 (omega arith)) in
-      omega (arith, b, ap (λ m. m * n) p)
 
   pub miss-within : (level cx cy : ℕ) → CellOf depth level cx cy
       → Within (pos (missLimit level (length es) * denominator es)) (pos 2 *ℤ miss depth es level cx cy)
   miss-within level cx cy c =
       let all : tally (λ e. 1) es ≡ length es = omega (arith, tally-const 1 es) in
       within-is (ap (λ n. pos (n * denominator es)) (bound-same (tally (λ e. 1) es) level cx cy ∙ ap (missLimit level) all)) refl
-      (miss-by-edges (misses-inside depth es (λ j cell e. 1) (λ j cell e n. absurd (omega arith))) level cx cy c)
+      (miss-by-edges (counts-inside depth es (λ j cell e. 1) (λ j cell e n. absurd (omega arith))) level cx cy c)
 
   pub miss-zero : All Octilinear es → (level cx cy : ℕ) → CellOf depth level cx cy → miss depth es level cx cy ≡ pos 0
   miss-zero s level cx cy c =
@@ -85,4 +88,4 @@ module _ {depth : ℕ} {es : List Edge} (o : ClosedOnTile depth es) where
       let b : bound dimensions 0 (λ j cell. tally (λ e. 0) es) level (at cx cy) * denominator es ≡ 0 =
       omega (arith, ap (λ n. n * denominator es) (bound-same (tally (λ e. 0) es) level cx cy ∙ ap (missLimit level) none)) in
       lin≡ (miss depth es level cx cy ∷ [])
-      (eq (zero-of-within (within-is (ap pos b) refl (miss-by-edges (misses-octilinear depth s) level cx cy c)))) (search linear depth 40) (tt, tt)
+      (eq (zero-of-within (within-is (ap pos b) refl (miss-by-edges (counts-octilinear depth s) level cx cy c)))) (search linear depth 40) (tt, tt)

@@ -27,12 +27,14 @@ use Rattle.accuracy.specs.Laws.OutlineWhole.{edges-whole}
 abbrev pub exactTable : ℕ → List Edge → Coefficients dimensions
 exactTable depth es = record { root = signedArea es *ℤ pos (denominator es); detail = detailOver depth es }
 
+-- level 0 has one cell
 only-cell : (cell : Cell dimensions) → Below dimensions 1 cell → cell ≡ at 0 0
 only-cell (cx, (cy, rest)) (i, (j, none)) =
     let x : cx ≡ 0 = omega arith in
     let y : cy ≡ 0 = omega arith in
     ap₂ at x y
 
+-- the quarter law, as figures go by it
 part : {es : List Edge} → Closed es → (depth j : ℕ) → j < depth → (cell : Cell dimensions)
     → pos 4 *ℤ areaOver depth es (suc j) cell
     ≡ areaOver depth es j (parent dimensions cell) +ℤ signedDetails dimensions (detailOver depth es j (parent dimensions cell)) (childNumber dimensions cell)

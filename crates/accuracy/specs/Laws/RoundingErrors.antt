@@ -1,17 +1,18 @@
--- How far each edge's own rounding moves its details: at most half a unit in a cell that it comes strictly inside, and not at all elsewhere, nor where it is
+-- How far each edge's own rounding moves its details: at most half a unit, and not at all in a cell that it does not come strictly inside, nor where it is
 -- level, upright or at 45 degrees.
 --
 -- Main results
---   Misses depth es k            each of an edge's details in a cell misses by at most k half units
---   misses-inside                so it does where k is at least 1 for each edge that comes strictly inside the cell, whatever it is for the others
---   misses-octilinear            and where k is 0, if every edge is level, upright or at 45 degrees
---   detail-misses                the table's details miss the exact ones by at most as many half units as their edges together
+--   outside-exact                rounding keeps the details of an edge in a square that it does not come strictly inside
+--   Counts depth es k            k counts each edge at least once in each cell in which rounding may move its details
+--   counts-inside                so k does if it counts each edge that comes strictly inside the cell
+--   counts-octilinear            and if it counts nothing, where every edge is level, upright or at 45 degrees
+--   detail-misses                the table's details miss the exact ones by at most as many half units as k counts edges
 use mathlib.Core.Path.{_≡_, refl, sym, _∙_, ap}
 use mathlib.Core.List.{List, [], _∷_}
 use Prim.Native.Nat.{ℕ, zero, suc, _*_, _<_, _≤_}
 use lib.IntN.{ℤ, pos, _-ℤ_, _*ℤ_}
 use lib.Signed.{_≤ℤ_}
-use Rattle.integers.specs.Ring.{read, ring}
+use Rattle.integers.specs.Ring.{read, ring, comb}
 use Rattle.integers.specs.Order.{nonneg}
 use Rattle.integers.specs.Linear.{le, linear, lin≤}
 use Rattle.integers.specs.Within.{Within, within-is, within-le}
@@ -36,7 +37,7 @@ use Rattle.accuracy.specs.Laws.Numbered.{by-number, numbered-each}
 use Rattle.accuracy.specs.Laws.Squares.{span-halves}
 
 -- the numerator of detail number d
-abbrev pub detailNum : Square → ℕ → Edge → ℤ
+abbrev detailNum : Square → ℕ → Edge → ℤ
 detailNum s d e = numbered (unrounded e s) d
 
 -- each is rounded on its own
@@ -45,46 +46,53 @@ unfolding details
 numbered-rounded e s d =
     numbered-each (λ z. roundHalfAway z (steps e)) (rounded-whole e (pos 0) (ring (pos (steps e) ∷ []) (search read depth 40) tt)) (unrounded e s) d
 
--- ---- each edge's own error
-pub record Misses (depth : ℕ) (es : List Edge) (k : ℕ → Cell dimensions → Edge → ℕ) : Type 0 where
-  pub each : (j : ℕ) → j < depth → (cell : Cell dimensions) → (d : ℕ) → 1 ≤ d → d ≤ detailCount dimensions
-      → All (λ e. Miss steps (detailNum (square depth j cell) d) (pos (k j cell e)) e) es
-
--- no part strictly inside: every detail is 0, and 0 is kept by rounding
-miss-outside : (e : Edge) (s : Square) → pos 0 ≤ℤ s .width → (Inside e s → ⊥) → (d : ℕ) → 1 ≤ d → d ≤ detailCount dimensions → Miss steps (detailNum s d) (pos 0) e
-miss-outside e s w none d i j =
-    miss-none steps (detailNum s d) e (pos 0) (steps-pos e)
-    (by-number (λ z. z ≡ pos 0) (unrounded e s) (h-zero e s w none) (v-zero e s w none) (d-zero e s w none) d i j
-    ∙ ring (pos (steps e) ∷ []) (search read depth 40) tt)
-
-pub misses-inside : (depth : ℕ) (es : List Edge) (k : ℕ → Cell dimensions → Edge → ℕ)
-    → ((j : ℕ) (cell : Cell dimensions) (e : Edge) → k j cell e ≡ 0 → Inside e (square depth j cell) → ⊥) → Misses depth es k
-misses-inside depth es k none = record { each = λ j h cell d i l. all-of (λ e. go j cell e (k j cell e) (none j cell e) d i l) es }
+-- ---- where rounding keeps an edge's details
+-- they are 0 there, a whole number
+pub outside-exact : (e : Edge) (s : Square) → pos 0 ≤ℤ s .width → (Inside e s → ⊥) → Exact e s
+outside-exact e s w none = record { h = kept (h-zero e s w none); v = kept (v-zero e s w none); d = kept (d-zero e s w none) }
   where
-    go : (j : ℕ) (cell : Cell dimensions) (e : Edge) (n : ℕ) → (n ≡ 0 → Inside e (square depth j cell) → ⊥) → (d : ℕ) → 1 ≤ d → d ≤ detailCount dimensions
-        → Miss steps (detailNum (square depth j cell) d) (pos n) e
-    go j cell e zero out d i l = miss-outside e (square depth j cell) (nonneg (span depth j)) (out refl) d i l
-    go j cell e (suc n) out d i l = within-le (lin≤ (pos n ∷ pos (steps e) ∷ []) (le (nonneg (n * steps e))) (search linear depth 40) tt) (miss-half steps (detailNum (square depth j cell) d) e (steps-pos e))
+    kept : {z : ℤ} → z ≡ pos 0 → roundHalfAway z (steps e) *ℤ pos (steps e) ≡ z
+    kept {z} p =
+        let zero-times : z ≡ pos 0 *ℤ pos (steps e) = comb (z ∷ pos (steps e) ∷ []) p (search read depth 40) tt in
+        ap (λ q. q *ℤ pos (steps e)) (rounded-whole e (pos 0) zero-times) ∙ sym zero-times
 
-pub misses-octilinear : (depth : ℕ) {es : List Edge} → All Octilinear es → Misses depth es (λ j cell e. 0)
-misses-octilinear depth {es} o = record { each = λ j h cell d i l. all-map (λ e s. kept e (square depth j cell) (octilinear-exact s (square depth j cell) (span-halves depth j h) (nonneg (span depth (suc j)))) d i l) es o }
-  where
-    kept : (e : Edge) (s : Square) → Exact e s → (d : ℕ) → 1 ≤ d → d ≤ detailCount dimensions → Miss steps (detailNum s d) (pos 0) e
-    kept e s x d i l =
-        miss-none steps (detailNum s d) e (roundHalfAway (detailNum s d e) (steps e)) (steps-pos e)
-        (sym (by-number (λ z. roundHalfAway z (steps e) *ℤ pos (steps e) ≡ z) (unrounded e s) (x .h) (x .v) (x .d) d i l))
+-- A count for each level, cell and edge, and not one for all, so that a bound can name the edges that matter.
+pub record Counts (depth : ℕ) (es : List Edge) (k : ℕ → Cell dimensions → Edge → ℕ) : Type 0 where
+  pub kept : (j : ℕ) → j < depth → (cell : Cell dimensions) → All (λ e. k j cell e ≡ 0 → Exact e (square depth j cell)) es
 
--- ---- added up over the edges
-pub detail-misses : {depth : ℕ} {es : List Edge} {k : ℕ → Cell dimensions → Edge → ℕ} → Misses depth es k → (j : ℕ) → j < depth → (cell : Cell dimensions)
-    → (d : ℕ) → 1 ≤ d → d ≤ detailCount dimensions
-    → Within (pos (tally (k j cell) es * denominator es)) (pos 2 *ℤ (outlineTable depth es .detail j cell d *ℤ pos (denominator es) -ℤ detailOver depth es j cell d))
+pub counts-inside : (depth : ℕ) (es : List Edge) (k : ℕ → Cell dimensions → Edge → ℕ)
+    → ((j : ℕ) (cell : Cell dimensions) (e : Edge) → k j cell e ≡ 0 → Inside e (square depth j cell) → ⊥) → Counts depth es k
+counts-inside depth es k out = record {
+  kept = λ j h cell. all-of (λ e n. outside-exact e (square depth j cell) (nonneg (span depth j)) (out j cell e n)) es;
+}
+
+pub counts-octilinear : (depth : ℕ) {es : List Edge} → All Octilinear es → Counts depth es (λ j cell e. 0)
+counts-octilinear depth {es} o = record {
+  kept = λ j h cell. all-map (λ e s n. octilinear-exact s (square depth j cell) (span-halves depth j h) (nonneg (span depth (suc j)))) es o;
+}
+
+-- ---- one edge: it misses by at most n half units, for every n but 0, and for 0 where rounding keeps its details
+edge-misses : (e : Edge) (s : Square) (n : ℕ) → (n ≡ 0 → Exact e s) → (d : ℕ) → 1 ≤ d → d ≤ detailCount dimensions → Miss steps (detailNum s d) (pos n) e
+edge-misses e s zero x d i l =
+    miss-none steps (detailNum s d) e (roundHalfAway (detailNum s d e) (steps e)) (steps-pos e)
+    (sym (by-number (λ z. roundHalfAway z (steps e) *ℤ pos (steps e) ≡ z) (unrounded e s) (x refl .h) (x refl .v) (x refl .d) d i l))
+edge-misses e s (suc n) x d i l =
+    within-le (lin≤ (pos n ∷ pos (steps e) ∷ []) (le (nonneg (n * steps e))) (search linear depth 40) tt) (miss-half steps (detailNum s d) e (steps-pos e))
+
+-- ---- all edges
+pub detail-misses : {depth : ℕ} {es : List Edge} {k : ℕ → Cell dimensions → Edge → ℕ} → Counts depth es k
+    → (j : ℕ) → j < depth → (cell : Cell dimensions) (d : ℕ) → 1 ≤ d → d ≤ detailCount dimensions
+    → Within (pos (tally (k j cell) es * denominator es))
+    (pos 2 *ℤ (outlineTable depth es .detail j cell d *ℤ pos (denominator es) -ℤ detailOver depth es j cell d))
 unfolding rounded
-detail-misses {depth} {es} {k} m j h cell d i l =
+detail-misses {depth} {es} {k} c j h cell d i l =
     within-is (ap (λ z. z *ℤ pos (denominator es)) (sym (tally-total (k j cell) es)))
     (ap (λ z. pos 2 *ℤ (z *ℤ pos (denominator es) -ℤ detailOver depth es j cell d)) (sym sums))
-    (rounded-within steps (detailNum (square depth j cell) d) (λ e. pos (k j cell e)) es (m .each j h cell d i l))
+    (rounded-within steps (detailNum s d) (λ e. pos (k j cell e)) es (all-map (λ e x. edge-misses e s (k j cell e) x d i l) es (c .kept j h cell)))
   where
-    sums : outlineTable depth es .detail j cell d ≡ rounded steps (detailNum (square depth j cell) d) es
+    s : Square
+    s = square depth j cell
+
+    sums : outlineTable depth es .detail j cell d ≡ rounded steps (detailNum s d) es
     sums =
-        total-cong (λ e. numbered (details e (square depth j cell)) d) (λ e. roundHalfAway (detailNum (square depth j cell) d e) (steps e)) es
-        (all-of (λ e. numbered-rounded e (square depth j cell) d) es)
+        total-cong (λ e. numbered (details e s) d) (λ e. roundHalfAway (detailNum s d e) (steps e)) es (all-of (λ e. numbered-rounded e s d) es)
