@@ -1,14 +1,16 @@
--- Demand 3, of the definitions: how near what is drawn of an outline's table is to the outline's exact areas. `Theorem` has that it holds.
+-- Demand 3, of the definitions: how near what is drawn of an outline's table is to the outline's exact areas. `Theorem` has that it holds. What 01 says besides
+-- of calls (none is refused, one cell alone, what the table held before) is for the crate that has the calls.
 --
--- An exact area is the fraction `exactArea / denominator`, so an equation or a bound of it stands here `denominator es` times over.
+-- An exact area is the fraction `exactAreaNum / denominator`, so an equation or a bound of it stands here `denominator es` times over.
 --
 -- Definitions
---   miss depth es level cx cy         how far the figure of a cell lies from 4^level times its exact area
---   missLimit level edges             twice the most that it may miss by
+--   miss depth es level cx cy         how far the figure of a cell lies from 4^level times its exact area, `denominator es` times over
+--   missLimit level edges             twice 01's limit of it
 --   quarterOf area w a b              area ± h ± v ± d, with the signs of quarter (a, b)
---   Accurate depth es                 all that is promised of the edges es of an outline on a tile of side 2^depth
+--   Accurate depth es                 what is promised of the edges es of an outline on a tile of side 2^depth
+--   AccurateOutline depth contours    and of the outline
 use mathlib.Core.Path.{_≡_}
-use mathlib.Core.List.{List, Perm, map}
+use mathlib.Core.List.{List, Perm, map, reverse}
 use Prim.Native.Nat.{ℕ, suc, _*_, _-_, _/_, _%_, _^_, _<_, _≤_}
 use lib.ListN.{length}
 use lib.IntN.{ℤ, pos, _+ℤ_, _-ℤ_, _*ℤ_}
@@ -16,24 +18,22 @@ use lib.Signed.{_≤ℤ_}
 use Rattle.integers.specs.Units.{greatestDepth, mostEdges, builtEntryLimit}
 use Rattle.integers.specs.Magnitude.{abs}
 use Rattle.integers.specs.HalfSign.{halfSign}
-use Rattle.integers.specs.ListSum.{All, total}
+use Rattle.integers.specs.ListSum.{All, total, tally}
 use Rattle.edge.specs.declared.Edge.{Edge}
 use Rattle.edge.specs.Octilinear.{Octilinear}
-use Rattle.edge.specs.Laws.Reversal.{reverse}
+use Rattle.haar.specs.Table.{Bounded}
 use Rattle.haar.specs.Pictures.{picture}
-use Rattle.haar.specs.Greys.{grey, greyOf}
-use Rattle.haar.specs.Plane.{dimensions, hDetail, vDetail, dDetail, figureAt}
-use Rattle.haar.specs.Laws.FigureBounds.{Bounded}
-use Rattle.haar.specs.Laws.Greys.{OneApart}
-use Rattle.accuracy.specs.Outline.{signedArea}
+use Rattle.haar.specs.Greys.{grey, greyOf, OneApart}
+use Rattle.haar.specs.Plane.{dimensions, hDetail, vDetail, dDetail, at, figureAt}
+use Rattle.accuracy.specs.Outline.{Point, outlineEdges, signedArea}
 use Rattle.accuracy.specs.Tile.{CellOf}
-use Rattle.accuracy.specs.ExactArea.{denominator, exactArea}
-use Rattle.accuracy.specs.OutlineTable.{outlineTable, negated, exactDetail}
+use Rattle.accuracy.specs.ExactArea.{denominator, exactAreaNum}
+use Rattle.accuracy.specs.ExactDetails.{exactDetailNum}
+use Rattle.accuracy.specs.OutlineTable.{outlineTable, negated}
 
 abbrev pub miss : ℕ → List Edge → ℕ → ℕ → ℕ → ℤ
-miss depth es level cx cy = figureAt (outlineTable depth es) level cx cy *ℤ pos (denominator es) -ℤ pos (4 ^ level) *ℤ exactArea depth es level cx cy
+miss depth es level cx cy = figureAt (outlineTable depth es) level cx cy *ℤ pos (denominator es) -ℤ pos (4 ^ level) *ℤ exactAreaNum depth es level (at cx cy)
 
--- 01's limit is half of this
 abbrev pub missLimit : ℕ → ℕ → ℕ
 missLimit level edges = (4 ^ level - 1) * edges
 
@@ -43,24 +43,32 @@ quarterOf area w a b = area +ℤ halfSign a *ℤ w hDetail +ℤ halfSign b *ℤ 
 
 pub record Accurate (depth : ℕ) (es : List Edge) : Type 0 where
   pub denominator-positive : 0 < denominator es
-  -- ---- the wavelet: the root is the exact area of the tile, and 4 × area(quarter) = area ± h ± v ± d
-  pub whole : exactArea depth es 0 0 0 ≡ signedArea es *ℤ pos (denominator es)
+  -- ---- the wavelet: the signed area is the exact area of the tile, and 4 × area(quarter) = area ± h ± v ± d. The four quarters' equations together say that
+  -- their areas add up to the cell's, and that h, v and d are 01's differences of areas.
+  pub whole : exactAreaNum depth es 0 (at 0 0) ≡ signedArea es *ℤ pos (denominator es)
   pub quarter : (j cx cy : ℕ) → j < depth
-      → pos 4 *ℤ exactArea depth es (suc j) cx cy
-      ≡ quarterOf (exactArea depth es j (cx / 2) (cy / 2)) (exactDetail depth es j (cx / 2) (cy / 2)) (cx % 2) (cy % 2)
+      → pos 4 *ℤ exactAreaNum depth es (suc j) (at cx cy)
+      ≡ quarterOf (exactAreaNum depth es j (at (cx / 2) (cy / 2))) (exactDetailNum depth es j (at (cx / 2) (cy / 2))) (cx % 2) (cy % 2)
   -- ---- what is drawn
   -- "A level L figure differs from 4^L times the exact area by at most (4^L − 1) × edges / 2"
   pub close : (level cx cy : ℕ) → CellOf depth level cx cy
       → (pos 2 *ℤ abs (miss depth es level cx cy)) ≤ℤ pos (missLimit level (length es) * denominator es)
   -- "It is equal where every edge is level, upright or at 45 degrees."
   pub equal : All Octilinear es → (level cx cy : ℕ) → CellOf depth level cx cy → miss depth es level cx cy ≡ pos 0
-  -- "Each grey is at most one from the exact area's grey", which "comes by the rule above from 4^L times the cell's exact area in place of the figure"
+  -- "Each grey is at most one from the exact area's grey", which "comes by the rule above from 4^L times the cell's exact area in place of the figure", where the
+  -- edges are at most 1,024, question 5's limit
   pub greys : length es ≤ mostEdges → (level cx cy : ℕ) → CellOf depth level cx cy
       → OneApart (greyOf (2 ^ depth) (figureAt (outlineTable depth es) level cx cy))
-      (grey (2 ^ depth) (pos (4 ^ level) *ℤ exactArea depth es level cx cy) (denominator es))
-  -- "The figures of level L add up to 4^L times the outline's signed area"
+      (grey (2 ^ depth) (pos (4 ^ level) *ℤ exactAreaNum depth es level (at cx cy)) (denominator es))
+  -- "The figures of level L add up to 4^L times the outline's signed area, which is entry 0."
   pub totals : (level : ℕ) → total (λ f. f) (picture dimensions (λ f. f) (outlineTable depth es) level) ≡ pos (4 ^ level) *ℤ signedArea es
-  -- ---- the table: within 2^38, well in question 9's range; the same in any order of the edges; of the reversed edges the opposite one
+  -- ---- the table, besides: its entries are within 2^38, well in question 9's range, and the order of the edges does not matter
   pub entries : depth ≤ greatestDepth → length es ≤ mostEdges → Bounded dimensions depth builtEntryLimit (λ j cell. builtEntryLimit) (outlineTable depth es)
   pub any-order : (fs : List Edge) → Perm es fs → outlineTable depth fs ≡ outlineTable depth es
-  pub reversed : outlineTable depth (map reverse es) ≡ negated (outlineTable depth es)
+
+pub record AccurateOutline (depth : ℕ) (contours : List (List Point)) : Type 0 where
+  pub accurate : Accurate depth (outlineEdges contours)
+  -- "the edges being the counts' sum"
+  pub edge-count : length (outlineEdges contours) ≡ tally length contours
+  -- with each contour's points in the reverse order, as 01's letters B and H are A and G reversed: the opposite table
+  pub reversed : outlineTable depth (outlineEdges (map reverse contours)) ≡ negated (outlineTable depth (outlineEdges contours))

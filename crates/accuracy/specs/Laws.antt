@@ -1,7 +1,6 @@
 -- How the claim is proved: one idea a file, in this order.
 
--- around closed contours, what depends on the end points alone cancels
-pub mod Closed
+-- the edges of an outline: around closed contours, what depends on the end points alone cancels
 pub mod Contours
 -- a cell of the next level is a quarter
 pub mod Squares

@@ -1,12 +1,14 @@
--- From an outline to how near its figures and greys are to its exact areas. Read in this order.
+-- From an outline to how near its figures and greys are to its exact areas. Read in this order. Of `edge` read Walk, Integrals, Rounded and Octilinear first; of
+-- `haar` Table, Figures, Pictures, Greys and Plane; of `integers` Fraction and Rounding.
 
 -- ---- what is spoken of
 -- points, contours, edges
 pub mod Outline
 -- the tile and its cells
 pub mod Tile
--- the exact area of a cell, as a fraction
+-- the exact area of a cell, and its exact details, as fractions
 pub mod ExactArea
+pub mod ExactDetails
 -- the table: sums over the edges of rounded details
 pub mod OutlineTable
 -- ---- the claim

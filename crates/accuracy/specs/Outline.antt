@@ -6,8 +6,10 @@
 --   through p qs last            the edges from p through the points qs to the last
 --   contourEdges, outlineEdges   the edges of one contour, and of all contours of an outline
 --   signedArea es                the signed area that edges enclose, in 01's units of half a square step
+--   gain f e, Closed es          what a function of a point gains along an edge; in closed edges the gains add up to 0
+use mathlib.Core.Path.{_≡_}
 use mathlib.Core.List.{List, [], _∷_, _++_}
-use lib.IntN.{ℤ}
+use lib.IntN.{ℤ, pos, _-ℤ_}
 use Rattle.integers.specs.ListSum.{total}
 use Rattle.edge.specs.declared.Edge.{Edge}
 use Rattle.edge.specs.Rounded.{rootTerm}
@@ -36,3 +38,11 @@ outlineEdges (c ∷ cs) = contourEdges c ++ outlineEdges cs
 -- "Signed area in units is the sum over edges of x0 × y1 − x1 × y0; negative for an anticlockwise contour."
 abbrev pub signedArea : List Edge → ℤ
 signedArea es = total rootTerm es
+
+-- Each point of a contour is the end of one edge and the start of the next, so whatever is gained along its edges adds up to 0. This is all that the proof
+-- knows of contours; it does not depend on the order of the edges.
+abbrev pub gain : (ℤ → ℤ → ℤ) → Edge → ℤ
+gain f e = f (e .x1) (e .y1) -ℤ f (e .x0) (e .y0)
+
+pub record Closed (es : List Edge) : Type 0 where
+  pub cancels : (f : ℤ → ℤ → ℤ) → total (gain f) es ≡ pos 0

@@ -2,7 +2,7 @@
 --
 -- Main results
 --   edges-accurate               for every list of closed edges on the tile
---   outline-accurate             and so for every outline: any list of contours whose points lie on the tile
+--   outline-accurate             and so for every outline: any list of contours whose points lie on the tile, of any number of points
 use mathlib.Core.List.{List}
 use Prim.Native.Nat.{ℕ, _-_, _^_, _≤_}
 use native.Mathlib.Omega.{arith}
@@ -14,41 +14,43 @@ use Rattle.integers.specs.Fraction.{common-pos}
 use Rattle.edge.specs.declared.Edge.{Edge}
 use Rattle.edge.specs.Walk.{steps}
 use Rattle.edge.specs.Laws.StepCount.{steps-pos}
-use Rattle.haar.specs.Plane.{dimensions, figureAt}
+use Rattle.haar.specs.Plane.{dimensions, at, figureAt}
 use Rattle.haar.specs.Laws.Totals.{picture-total}
-use Rattle.accuracy.specs.Outline.{Point, outlineEdges}
-use Rattle.accuracy.specs.Tile.{tile, OnTile}
-use Rattle.accuracy.specs.ExactArea.{denominator, exactArea}
+use Rattle.accuracy.specs.Outline.{Point}
+use Rattle.accuracy.specs.Tile.{OnTile, ClosedOnTile}
+use Rattle.accuracy.specs.ExactArea.{denominator, exactAreaNum}
 use Rattle.accuracy.specs.OutlineTable.{outlineTable}
-use Rattle.accuracy.specs.Accurate.{miss, Accurate}
-use Rattle.accuracy.specs.Laws.Closed.{ClosedOnTile}
-use Rattle.accuracy.specs.Laws.Contours.{outline-on-tile}
+use Rattle.accuracy.specs.Accurate.{miss, Accurate, AccurateOutline}
+use Rattle.accuracy.specs.Laws.Contours.{outlineEdges-length, outline-on-tile}
 use Rattle.accuracy.specs.Laws.OutlineQuarter.{outline-quarter}
-use Rattle.accuracy.specs.Laws.OutlineWhole.{edges-whole}
+use Rattle.accuracy.specs.Laws.OutlineWhole.{outline-whole}
 use Rattle.accuracy.specs.Laws.Closeness.{miss-within, miss-zero}
 use Rattle.accuracy.specs.Laws.CloseGreys.{close-greys}
 use Rattle.accuracy.specs.Laws.EntryBounds.{built-entries}
 use Rattle.accuracy.specs.Laws.Order.{outlineTable-perm}
-use Rattle.accuracy.specs.Laws.Reversal.{outlineTable-reverse}
+use Rattle.accuracy.specs.Laws.Reversal.{outline-reversed}
 
 pub edges-accurate : {depth : ℕ} {es : List Edge} → ClosedOnTile depth es → Accurate depth es
 edges-accurate {depth} {es} o =
     let fraction = common-pos steps es (all-of steps-pos es) in
     record {
       denominator-positive = fraction;
-      whole = edges-whole (o .closed) (tile depth) (o .on-tile);
+      whole = outline-whole o;
       quarter = outline-quarter (o .closed) depth;
       close = λ level cx cy c. scaled-abs-of-within 2 (miss depth es level cx cy) (miss-within o level cx cy c);
       equal = miss-zero o;
       greys = λ few level cx cy c.
           let cells : 4 ^ level - 1 ≤ 4 ^ depth = omega (arith, pow-le-pow-right {n = 4} (omega arith) (c .level-to-depth)) in
-          close-greys depth (denominator es) (figureAt (outlineTable depth es) level cx cy) (pos (4 ^ level) *ℤ exactArea depth es level cx cy)
+          close-greys depth (denominator es) (figureAt (outlineTable depth es) level cx cy) (pos (4 ^ level) *ℤ exactAreaNum depth es level (at cx cy))
           cells few fraction (miss-within o level cx cy c);
       totals = picture-total dimensions (outlineTable depth es);
       entries = built-entries es (o .on-tile);
       any-order = λ fs p. outlineTable-perm depth p;
-      reversed = outlineTable-reverse depth es;
     }
 
-pub outline-accurate : (depth : ℕ) (contours : List (List Point)) → All (All (OnTile depth)) contours → Accurate depth (outlineEdges contours)
-outline-accurate depth contours on = edges-accurate (outline-on-tile depth contours on)
+pub outline-accurate : (depth : ℕ) (contours : List (List Point)) → All (All (OnTile depth)) contours → AccurateOutline depth contours
+outline-accurate depth contours on = record {
+  accurate = edges-accurate (outline-on-tile depth contours on);
+  edge-count = outlineEdges-length contours;
+  reversed = outline-reversed depth contours;
+}

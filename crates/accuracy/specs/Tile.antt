@@ -5,15 +5,20 @@
 --   square depth level cell      the square of a cell
 --   tile depth                   the whole tile, which is the cell of level 0
 --   OnTile depth p               a point on the tile
+--   EdgeOnTile depth e           an edge between two such points
+--   ClosedOnTile depth es        closed edges on the tile
 --   CellOf depth level cx cy     cell (cx, cy) of a level that the tile has
+use mathlib.Core.List.{List}
 use Prim.Native.Nat.{ℕ, _*_, _-_, _^_, _<_, _≤_}
 use lib.IntN.{pos}
 use lib.Signed.{_≤ℤ_}
 use Rattle.integers.specs.Units.{stepsPerPixel}
+use Rattle.integers.specs.ListSum.{All}
+use Rattle.edge.specs.declared.Edge.{Edge}
 use Rattle.edge.specs.declared.Cell.{Cell as Square}
 use Rattle.haar.specs.Cells.{Cell}
 use Rattle.haar.specs.Plane.{dimensions, at}
-use Rattle.accuracy.specs.Outline.{Point}
+use Rattle.accuracy.specs.Outline.{Point, Closed}
 
 -- "A step is 1/256 pixel", and each level halves the width: a cell of level `depth` is a pixel, and that of level 0 is the tile
 abbrev pub span : ℕ → ℕ → ℕ
@@ -36,6 +41,15 @@ pub record OnTile (depth : ℕ) (p : Point) : Type 0 where
   pub x-high : p .x ≤ℤ pos (span depth 0)
   pub y-low : pos 0 ≤ℤ p .y
   pub y-high : p .y ≤ℤ pos (span depth 0)
+
+pub record EdgeOnTile (depth : ℕ) (e : Edge) : Type 0 where
+  pub start : OnTile depth (record { x = e .x0; y = e .y0 })
+  pub end : OnTile depth (record { x = e .x1; y = e .y1 })
+
+-- what the edges of an outline on the tile are
+pub record ClosedOnTile (depth : ℕ) (es : List Edge) : Type 0 where
+  pub closed : Closed es
+  pub on-tile : All (EdgeOnTile depth) es
 
 -- "any level L from 0 to the depth", and "both cell numbers below 2^level"
 pub record CellOf (depth level cx cy : ℕ) : Type 0 where

@@ -10,7 +10,8 @@ use Rattle.edge.specs.declared.Edge.{Edge}
 use Rattle.edge.specs.declared.Axis.{Axis}
 use Rattle.edge.specs.Walk.{sign, dx, dy, ax, ay}
 
--- "every edge is level, upright or at 45 degrees": of one at 45 degrees both extents are the same
+-- "every edge is level, upright or at 45 degrees": of one at 45 degrees both extents are the same. (So are those of a point, and of a level or upright
+-- edge one step long, since a difference of 0 has the extent 1.)
 pub data Octilinear (e : Edge) : Type 0 where
   level : dy e ≡ pos 0 → Octilinear e
   upright : dx e ≡ pos 0 → Octilinear e

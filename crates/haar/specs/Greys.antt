@@ -4,7 +4,8 @@
 --   full side                    the figure of a cell that is all ink: as large at every level
 --   grey side num den            the grey of num / den in a figure's place, on a tile of side × side pixels
 --   greyOf side f                the grey of the figure f
-use Prim.Native.Nat.{ℕ, _*_}
+--   OneApart a b                 two greys that are at most one apart
+use Prim.Native.Nat.{ℕ, _+_, _*_, _≤_}
 use lib.IntN.{ℤ, pos, natAbs, _*ℤ_}
 use Rattle.integers.specs.Units.{unitsPerPixel, fullGrey}
 use Rattle.integers.specs.Clamp.{clamp}
@@ -21,3 +22,7 @@ grey side num den = natAbs (clamp (roundHalfUp (pos fullGrey *ℤ num) (full sid
 
 abbrev pub greyOf : ℕ → ℤ → ℕ
 greyOf side f = grey side f 1
+
+pub record OneApart (a b : ℕ) : Type 0 where
+  pub up : a ≤ b + 1
+  pub down : b ≤ a + 1

@@ -4,11 +4,13 @@
 --   Coefficients n               a root, and detail e of each cell of each level
 --   index n j cell e             where detail e of a cell of level j stands in the list
 --   stored n entries             the coefficients that a list of entries holds
+--   Bounded n depth r b t        r bounds the root of t, either way, and b each cell's details at every level below the depth
 use mathlib.Core.List.{List}
-use Prim.Native.Nat.{ℕ, _+_, _*_, _-_, _^_}
+use Prim.Native.Nat.{ℕ, _+_, _*_, _-_, _^_, _<_, _≤_}
 use lib.ListN.{getD}
 use lib.IntN.{ℤ, pos}
-use Rattle.haar.specs.Cells.{children, details, Cell, rowMajor}
+use Rattle.integers.specs.Within.{Within}
+use Rattle.haar.specs.Cells.{children, details, Cell, Below, rowMajor}
 
 pub record Coefficients (n : ℕ) : Type 0 where
   pub root : ℤ
@@ -25,3 +27,8 @@ stored n entries = record {
   root = getD entries 0 (pos 0);
   detail = λ j cell e. getD entries (index n j cell e) (pos 0);
 }
+
+pub record Bounded (n depth r : ℕ) (b : ℕ → Cell n → ℕ) (t : Coefficients n) : Type 0 where
+  pub root-within : Within (pos r) (t .root)
+  pub detail-within : (j : ℕ) → j < depth → (cell : Cell n) → Below n (2 ^ j) cell → (e : ℕ) → 1 ≤ e → e ≤ details n
+      → Within (pos (b j cell)) (t .detail j cell e)

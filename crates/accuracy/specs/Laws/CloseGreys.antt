@@ -12,9 +12,9 @@ use Rattle.integers.specs.Ring.{read, ring}
 use Rattle.integers.specs.Order.{pos-≤ℤ}
 use Rattle.integers.specs.Linear.{le, _&_, linear, lin≤}
 use Rattle.integers.specs.Within.{Within, bounds, within-is, within-scale}
-use Rattle.haar.specs.Greys.{grey, greyOf}
+use Rattle.haar.specs.Greys.{grey, greyOf, OneApart}
 use Rattle.haar.specs.Laws.Cells.{level-square}
-use Rattle.haar.specs.Laws.Greys.{OneApart, greys-one-apart}
+use Rattle.haar.specs.Laws.Greys.{greys-one-apart}
 
 -- The one comparison of constants: 255 × 1,024 = 261,120 is at most 2 × 131,072 = 262,144. An edge makes a figure miss by less than 4^level / 2, and
 -- a grey is a 255th of 131,072 × 4^depth, so the misses of `mostEdges` edges come to less than one grey.

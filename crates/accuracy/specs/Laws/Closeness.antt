@@ -20,16 +20,16 @@ use Rattle.integers.specs.ListSum.{All, tally, tally-const}
 use Rattle.edge.specs.declared.Edge.{Edge}
 use Rattle.edge.specs.Octilinear.{Octilinear}
 use Rattle.haar.specs.Cells.{Cell}
-use Rattle.haar.specs.Table.{Coefficients}
+use Rattle.haar.specs.Table.{Coefficients, Bounded}
 use Rattle.haar.specs.Plane.{dimensions, at, figureAt}
-use Rattle.haar.specs.Laws.FigureBounds.{bound, Bounded, figure-within, bound-const, bound-scale}
+use Rattle.haar.specs.Laws.FigureBounds.{bound, figure-within, bound-const, bound-scale}
 use Rattle.haar.specs.Laws.FigureLinear.{combine, figure-linear}
 use Rattle.accuracy.specs.Outline.{signedArea}
-use Rattle.accuracy.specs.Tile.{CellOf}
-use Rattle.accuracy.specs.ExactArea.{denominator, exactArea}
-use Rattle.accuracy.specs.OutlineTable.{outlineTable, detailOver}
+use Rattle.accuracy.specs.Tile.{ClosedOnTile, CellOf}
+use Rattle.accuracy.specs.ExactArea.{denominator, exactAreaNum}
+use Rattle.accuracy.specs.ExactDetails.{exactDetailNum}
+use Rattle.accuracy.specs.OutlineTable.{outlineTable}
 use Rattle.accuracy.specs.Accurate.{miss, missLimit}
-use Rattle.accuracy.specs.Laws.Closed.{ClosedOnTile}
 use Rattle.accuracy.specs.Laws.ExactFigures.{exactTable, exact-figure}
 use Rattle.accuracy.specs.Laws.RoundingErrors.{Counts, counts-inside, counts-octilinear, detail-misses}
 
@@ -49,7 +49,7 @@ module _ {depth : ℕ} {es : List Edge} (o : ClosedOnTile depth es) where
   errors-figure level cx cy c =
       figure-linear dimensions (pos 2 *ℤ pos (denominator es)) (outlineTable depth es) (negsuc 1) (exactTable depth es) level (at cx cy)
       ∙ comb
-      (figureAt (outlineTable depth es) level cx cy ∷ figureAt (exactTable depth es) level cx cy ∷ exactArea depth es level cx cy
+      (figureAt (outlineTable depth es) level cx cy ∷ figureAt (exactTable depth es) level cx cy ∷ exactAreaNum depth es level (at cx cy)
       ∷ pos (denominator es) ∷ pos (4 ^ level) ∷ [])
       (negsuc 1 ⊗ exact-figure o level (c .level-to-depth) (at cx cy) (c .x-below, (c .y-below, tt))) (search read depth 40) tt
 
@@ -67,7 +67,7 @@ module _ {depth : ℕ} {es : List Edge} (o : ClosedOnTile depth es) where
       bounded = record {
         root-within = within-is refl (ring (signedArea es ∷ pos D ∷ []) (search read depth 40) tt) (within-self (nonneg (0 * D)));
         detail-within = λ j h cell b d i l.
-            within-is refl (ring (outlineTable depth es .detail j cell d ∷ detailOver depth es j cell d ∷ pos D ∷ []) (search read depth 40) tt)
+            within-is refl (ring (outlineTable depth es .detail j cell d ∷ exactDetailNum depth es j cell d ∷ pos D ∷ []) (search read depth 40) tt)
             (detail-misses n j h cell d i l);
       }
 

@@ -3,11 +3,11 @@
 -- Main results
 --   entries-bounded              every entry is at most the number of edges times s²
 --   built-entries                and so at most `builtEntryLimit` for a depth and a number of edges that are accepted
-use mathlib.Core.Path.{refl, subst}
+use mathlib.Core.Path.{refl}
 use mathlib.Core.List.{List, [], _∷_}
 use Prim.Native.Nat.{ℕ, _*_, _^_, _≤_}
 use native.Mathlib.Omega.{arith}
-use native.Mathlib.Nat.{le-trans, sub-le, sub-le-sub-left, zero-mul, mul-le-mul, mul-le-mul-left, pow-le-pow-right}
+use native.Mathlib.Nat.{le-trans, sub-le, sub-le-sub-left, mul-le-mul, mul-le-mul-left, pow-le-pow-right}
 use lib.ListN.{length}
 use lib.IntN.{ℤ, pos, _*ℤ_}
 use lib.Signed.{_≤ℤ_}
@@ -21,11 +21,12 @@ use Rattle.edge.specs.declared.Edge.{Edge}
 use Rattle.edge.specs.Rounded.{details, rootTerm}
 use Rattle.edge.specs.Laws.Cells.{difference-on}
 use Rattle.edge.specs.Laws.Bounds.{rounded-h-bound, rounded-v-bound, rounded-d-bound}
-use Rattle.edge.specs.Laws.WholeTile.{OnRange, OnCell}
+use Rattle.edge.specs.Laws.WholeTile.{OnRange}
+use Rattle.haar.specs.Table.{Bounded}
 use Rattle.haar.specs.Plane.{dimensions}
-use Rattle.haar.specs.Laws.FigureBounds.{Bounded}
-use Rattle.accuracy.specs.Tile.{span, square, tile}
+use Rattle.accuracy.specs.Tile.{span, square, EdgeOnTile}
 use Rattle.accuracy.specs.OutlineTable.{edgeTable, outlineTable}
+use Rattle.accuracy.specs.Laws.Squares.{from-zero}
 use Rattle.accuracy.specs.Laws.Numbered.{by-number}
 
 -- ---- the product of two coordinates between 0 and w
@@ -44,16 +45,16 @@ width-le h = mul-le-mul-left stepsPerPixel (pow-le-pow-right {n = 2} (omega arit
 
 -- ---- what one edge adds
 -- To the root, the difference of two products of coordinates, neither below 0; to a detail, how far it runs in x or in y times the cell's width.
-edge-bounded : {depth : ℕ} {e : Edge} → OnCell (tile depth) e
+edge-bounded : {depth : ℕ} {e : Edge} → EdgeOnTile depth e
     → Bounded dimensions depth (span depth 0 * span depth 0) (λ j cell. span depth 0 * span depth 0) (edgeTable depth e)
 unfolding rootTerm
 edge-bounded {depth} {e} on = record {
-  root-within = difference-on (range-mul (from-zero (on .x1)) (from-zero (on .y0))) (range-mul (from-zero (on .x0)) (from-zero (on .y1)));
+  root-within = difference-on (range-mul x1 y0) (range-mul x0 y1);
   detail-within = λ j i cell b k m n.
       let c = square depth j cell in
       let w≥0 = nonneg (span depth j) in
-      let x = run-le j (difference-on (on .x0) (on .x1)) in
-      let y = run-le j (difference-on (on .y0) (on .y1)) in
+      let x = run-le j (difference-on x0 x1) in
+      let y = run-le j (difference-on y0 y1) in
       by-number (Within (pos (s * s))) (details e c)
       (within-le y (rounded-h-bound e c w≥0)) (within-le x (rounded-v-bound e c w≥0)) (within-le y (rounded-d-bound e c w≥0)) k m n;
 }
@@ -61,8 +62,17 @@ edge-bounded {depth} {e} on = record {
     s : ℕ
     s = span depth 0
 
-    from-zero : {p : ℤ} → OnRange (pos (0 * s)) (pos s) p → OnRange (pos 0) (pos s) p
-    from-zero {p} h = subst (λ n. OnRange (pos n) (pos s) p) (zero-mul s) h
+    x0 : OnRange (pos 0) (pos s) (e .x0)
+    x0 = from-zero (on .start .x-low) (on .start .x-high)
+
+    y0 : OnRange (pos 0) (pos s) (e .y0)
+    y0 = from-zero (on .start .y-low) (on .start .y-high)
+
+    x1 : OnRange (pos 0) (pos s) (e .x1)
+    x1 = from-zero (on .end .x-low) (on .end .x-high)
+
+    y1 : OnRange (pos 0) (pos s) (e .y1)
+    y1 = from-zero (on .end .y-low) (on .end .y-high)
 
     run-le : {run : ℤ} (j : ℕ) → Within (pos s) run → (abs run *ℤ pos (span depth j)) ≤ℤ pos (s * s)
     run-le {run} j h =
@@ -74,7 +84,7 @@ edge-bounded {depth} {e} on = record {
 total-bounded : (b : ℕ) (f : Edge → ℤ) (es : List Edge) → All (λ e. Within (pos b) (f e)) es → Within (pos (length es * b)) (total f es)
 total-bounded b f es h = within-is (total-const (pos b) es) refl (total-within (λ e. pos b) f es h)
 
-pub entries-bounded : {depth : ℕ} (es : List Edge) → All (OnCell (tile depth)) es
+pub entries-bounded : {depth : ℕ} (es : List Edge) → All (EdgeOnTile depth) es
     → Bounded dimensions depth (length es * (span depth 0 * span depth 0)) (λ j cell. length es * (span depth 0 * span depth 0))
     (outlineTable depth es)
 entries-bounded {depth} es on =
@@ -85,7 +95,7 @@ entries-bounded {depth} es on =
           total-bounded b (λ e. edgeTable depth e .detail j cell k) es (all-map (λ e h. edge-bounded h .detail-within j i cell c k m n) es on);
     }
 
-pub built-entries : {depth : ℕ} (es : List Edge) → All (OnCell (tile depth)) es → depth ≤ greatestDepth → length es ≤ mostEdges
+pub built-entries : {depth : ℕ} (es : List Edge) → All (EdgeOnTile depth) es → depth ≤ greatestDepth → length es ≤ mostEdges
     → Bounded dimensions depth builtEntryLimit (λ j cell. builtEntryLimit) (outlineTable depth es)
 built-entries {depth} es on g h =
     let s : span depth 0 ≤ greatestCoordinate = width-le (le-trans (sub-le depth 0) g) in

@@ -16,16 +16,15 @@ use Rattle.haar.specs.Figures.{signedDetails, figure}
 use Rattle.haar.specs.Plane.{dimensions, hDetail, vDetail, dDetail, at}
 use Rattle.haar.specs.Laws.Areas.{figure-area}
 use Rattle.haar.specs.Laws.Quarters.{parent-at, signedDetails-quarter}
-use Rattle.accuracy.specs.Outline.{signedArea}
-use Rattle.accuracy.specs.Tile.{tile}
-use Rattle.accuracy.specs.ExactArea.{denominator, areaOver}
-use Rattle.accuracy.specs.OutlineTable.{detailOver}
-use Rattle.accuracy.specs.Laws.Closed.{Closed, ClosedOnTile}
+use Rattle.accuracy.specs.Outline.{signedArea, Closed}
+use Rattle.accuracy.specs.Tile.{ClosedOnTile}
+use Rattle.accuracy.specs.ExactArea.{denominator, exactAreaNum}
+use Rattle.accuracy.specs.ExactDetails.{exactDetailNum}
 use Rattle.accuracy.specs.Laws.OutlineQuarter.{outline-quarter}
-use Rattle.accuracy.specs.Laws.OutlineWhole.{edges-whole}
+use Rattle.accuracy.specs.Laws.OutlineWhole.{outline-whole}
 
 abbrev pub exactTable : ℕ → List Edge → Coefficients dimensions
-exactTable depth es = record { root = signedArea es *ℤ pos (denominator es); detail = detailOver depth es }
+exactTable depth es = record { root = signedArea es *ℤ pos (denominator es); detail = exactDetailNum depth es }
 
 -- level 0 has one cell
 only-cell : (cell : Cell dimensions) → Below dimensions 1 cell → cell ≡ at 0 0
@@ -36,20 +35,20 @@ only-cell (cx, (cy, rest)) (i, (j, none)) =
 
 -- the quarter law, as figures go by it
 part : {es : List Edge} → Closed es → (depth j : ℕ) → j < depth → (cell : Cell dimensions)
-    → pos 4 *ℤ areaOver depth es (suc j) cell
-    ≡ areaOver depth es j (parent dimensions cell) +ℤ signedDetails dimensions (detailOver depth es j (parent dimensions cell)) (childNumber dimensions cell)
+    → pos 4 *ℤ exactAreaNum depth es (suc j) cell
+    ≡ exactAreaNum depth es j (parent dimensions cell) +ℤ signedDetails dimensions (exactDetailNum depth es j (parent dimensions cell)) (childNumber dimensions cell)
 part {es} closed depth j h (cx, (cy, rest)) =
-    let area = areaOver depth es j (at (cx / 2) (cy / 2)) in
-    let w = detailOver depth es j (at (cx / 2) (cy / 2)) in
+    let area = exactAreaNum depth es j (at (cx / 2) (cy / 2)) in
+    let w = exactDetailNum depth es j (at (cx / 2) (cy / 2)) in
     let signed = signedDetails dimensions w (childNumber dimensions (at cx cy)) in
     outline-quarter closed depth j cx cy h
     ∙ comb (area ∷ signed ∷ pos (cx % 2) ∷ pos (cy % 2) ∷ w hDetail ∷ w vDetail ∷ w dDetail ∷ []) (negsuc 0 ⊗ signedDetails-quarter w cx cy) (search read depth 40) tt
-    ∙ ap (λ q. areaOver depth es j q +ℤ signedDetails dimensions (detailOver depth es j q) (childNumber dimensions (at cx cy))) (sym (parent-at cx cy))
+    ∙ ap (λ q. exactAreaNum depth es j q +ℤ signedDetails dimensions (exactDetailNum depth es j q) (childNumber dimensions (at cx cy))) (sym (parent-at cx cy))
 
 pub exact-figure : {depth : ℕ} {es : List Edge} → ClosedOnTile depth es → (level : ℕ) → level ≤ depth → (cell : Cell dimensions) → Below dimensions (2 ^ level) cell
-    → figure dimensions (exactTable depth es) level cell ≡ pos (4 ^ level) *ℤ areaOver depth es level cell
+    → figure dimensions (exactTable depth es) level cell ≡ pos (4 ^ level) *ℤ exactAreaNum depth es level cell
 exact-figure {depth} {es} o =
-    figure-area {n = dimensions} {t = exactTable depth es} {a = areaOver depth es} (record {
-      whole = λ cell b. ap (areaOver depth es 0) (only-cell cell b) ∙ edges-whole (o .closed) (tile depth) (o .on-tile);
+    figure-area {n = dimensions} {t = exactTable depth es} {a = exactAreaNum depth es} (record {
+      whole = λ cell b. ap (exactAreaNum depth es 0) (only-cell cell b) ∙ outline-whole o;
       part = λ j h cell b. part (o .closed) depth j h cell;
     })

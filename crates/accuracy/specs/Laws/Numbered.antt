@@ -10,7 +10,7 @@ use lib.IntN.{ℤ, pos}
 use Rattle.edge.specs.declared.Details.{Details}
 use Rattle.haar.specs.Cells.{details}
 use Rattle.haar.specs.Plane.{dimensions}
-use Rattle.accuracy.specs.OutlineTable.{numbered}
+use Rattle.accuracy.specs.ExactDetails.{numbered}
 
 pub by-number : (P : ℤ → Type 0) (w : Details) → P (w .h) → P (w .v) → P (w .d) → (k : ℕ) → 1 ≤ k → k ≤ details dimensions → P (numbered w k)
 unfolding numbered

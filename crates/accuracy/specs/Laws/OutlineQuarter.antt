@@ -21,11 +21,11 @@ use Rattle.edge.specs.Walk.{steps}
 use Rattle.edge.specs.Integrals.{areaNum, hNum, vNum, dNum}
 use Rattle.edge.specs.Laws.Quarter.{quarter, boundary, edge-quarter}
 use Rattle.haar.specs.Plane.{at}
+use Rattle.accuracy.specs.Outline.{gain, Closed}
 use Rattle.accuracy.specs.Tile.{span, square}
-use Rattle.accuracy.specs.ExactArea.{exactArea}
-use Rattle.accuracy.specs.OutlineTable.{numbered, exactDetail}
+use Rattle.accuracy.specs.ExactArea.{exactAreaNum}
+use Rattle.accuracy.specs.ExactDetails.{numbered, exactDetailNum}
 use Rattle.accuracy.specs.Accurate.{quarterOf}
-use Rattle.accuracy.specs.Laws.Closed.{gain, Closed}
 use Rattle.accuracy.specs.Laws.Squares.{span-halves, square-quarter}
 
 module _ {es : List Edge} (closed : Closed es) where
@@ -72,8 +72,8 @@ module _ {es : List Edge} (closed : Closed es) where
 
 -- ---- the cells of a tile
 pub outline-quarter : {es : List Edge} → Closed es → (depth j cx cy : ℕ) → j < depth
-    → pos 4 *ℤ exactArea depth es (suc j) cx cy
-    ≡ quarterOf (exactArea depth es j (cx / 2) (cy / 2)) (exactDetail depth es j (cx / 2) (cy / 2)) (cx % 2) (cy % 2)
+    → pos 4 *ℤ exactAreaNum depth es (suc j) (at cx cy)
+    ≡ quarterOf (exactAreaNum depth es j (at (cx / 2) (cy / 2))) (exactDetailNum depth es j (at (cx / 2) (cy / 2))) (cx % 2) (cy % 2)
 unfolding numbered
 outline-quarter {es} closed depth j cx cy h =
     ap (λ c. pos 4 *ℤ numer steps (λ e. areaNum e c) es) (square-quarter depth j cx cy h)

@@ -2,8 +2,10 @@
 --
 -- Main results
 --   edges-whole                  of any square that the edges lie in
+--   outline-whole                of the tile
 use mathlib.Core.Path.{_≡_, _∙_}
 use mathlib.Core.List.{List, [], _∷_}
+use Prim.Native.Nat.{ℕ}
 use lib.IntN.{ℤ, pos, _+ℤ_, _*ℤ_}
 use Rattle.integers.specs.Ring.{read, ring, comb, _⊕_, _⊗_}
 use Rattle.integers.specs.ListSum.{All, all-map, total, total-add}
@@ -14,9 +16,11 @@ use Rattle.edge.specs.Walk.{steps}
 use Rattle.edge.specs.Integrals.{areaNum}
 use Rattle.edge.specs.Rounded.{rootTerm}
 use Rattle.edge.specs.Laws.WholeTile.{OnCell, rootBoundary, whole-tile}
-use Rattle.accuracy.specs.Outline.{signedArea}
-use Rattle.accuracy.specs.ExactArea.{denominator}
-use Rattle.accuracy.specs.Laws.Closed.{gain, Closed}
+use Rattle.haar.specs.Plane.{at}
+use Rattle.accuracy.specs.Outline.{signedArea, gain, Closed}
+use Rattle.accuracy.specs.Tile.{tile, ClosedOnTile}
+use Rattle.accuracy.specs.ExactArea.{denominator, exactAreaNum}
+use Rattle.accuracy.specs.Laws.Squares.{on-cell}
 
 pub edges-whole : {es : List Edge} → Closed es → (c : Square) → All (OnCell c) es → numer steps (λ e. areaNum e c) es ≡ signedArea es *ℤ pos (denominator es)
 edges-whole {es} closed c on =
@@ -30,3 +34,6 @@ edges-whole {es} closed c on =
 
     each : (e : Edge) → OnCell c e → areaNum e c ≡ term e *ℤ pos (steps e)
     each e h = whole-tile h ∙ ring (pos (steps e) ∷ term e ∷ []) (search read depth 40) tt
+
+pub outline-whole : {depth : ℕ} {es : List Edge} → ClosedOnTile depth es → exactAreaNum depth es 0 (at 0 0) ≡ signedArea es *ℤ pos (denominator es)
+outline-whole {depth} {es} o = edges-whole (o .closed) (tile depth) (all-map (on-cell depth) es (o .on-tile))

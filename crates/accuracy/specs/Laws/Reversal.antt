@@ -17,7 +17,8 @@ use Rattle.edge.specs.Rounded.{details, rootTerm}
 use Rattle.edge.specs.Laws.Reversal.{reverse, details-reverse, root-reverse}
 use Rattle.accuracy.specs.Outline.{Point, edgeBetween, through, contourEdges, outlineEdges}
 use Rattle.accuracy.specs.Tile.{square}
-use Rattle.accuracy.specs.OutlineTable.{numbered, edgeTable, outlineTable, negated}
+use Rattle.accuracy.specs.ExactDetails.{numbered}
+use Rattle.accuracy.specs.OutlineTable.{edgeTable, outlineTable, negated}
 use Rattle.accuracy.specs.Laws.Numbered.{numbered-each}
 use Rattle.accuracy.specs.Laws.Order.{outlineTable-perm}
 

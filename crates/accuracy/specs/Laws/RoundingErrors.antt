@@ -32,7 +32,8 @@ use Rattle.haar.specs.Cells.{Cell, details as detailCount}
 use Rattle.haar.specs.Plane.{dimensions}
 use Rattle.accuracy.specs.Tile.{span, square}
 use Rattle.accuracy.specs.ExactArea.{denominator}
-use Rattle.accuracy.specs.OutlineTable.{numbered, outlineTable, unrounded, detailOver}
+use Rattle.accuracy.specs.ExactDetails.{numbered, unrounded, exactDetailNum}
+use Rattle.accuracy.specs.OutlineTable.{outlineTable}
 use Rattle.accuracy.specs.Laws.Numbered.{by-number, numbered-each}
 use Rattle.accuracy.specs.Laws.Squares.{span-halves}
 
@@ -83,11 +84,11 @@ edge-misses e s (suc n) x d i l =
 pub detail-misses : {depth : ℕ} {es : List Edge} {k : ℕ → Cell dimensions → Edge → ℕ} → Counts depth es k
     → (j : ℕ) → j < depth → (cell : Cell dimensions) (d : ℕ) → 1 ≤ d → d ≤ detailCount dimensions
     → Within (pos (tally (k j cell) es * denominator es))
-    (pos 2 *ℤ (outlineTable depth es .detail j cell d *ℤ pos (denominator es) -ℤ detailOver depth es j cell d))
+    (pos 2 *ℤ (outlineTable depth es .detail j cell d *ℤ pos (denominator es) -ℤ exactDetailNum depth es j cell d))
 unfolding rounded
 detail-misses {depth} {es} {k} c j h cell d i l =
     within-is (ap (λ z. z *ℤ pos (denominator es)) (sym (tally-total (k j cell) es)))
-    (ap (λ z. pos 2 *ℤ (z *ℤ pos (denominator es) -ℤ detailOver depth es j cell d)) (sym sums))
+    (ap (λ z. pos 2 *ℤ (z *ℤ pos (denominator es) -ℤ exactDetailNum depth es j cell d)) (sym sums))
     (rounded-within steps (detailNum s d) (λ e. pos (k j cell e)) es (all-map (λ e x. edge-misses e s (k j cell e) x d i l) es (c .kept j h cell)))
   where
     s : Square

@@ -3,14 +3,13 @@
 --
 -- Main results
 --   bound n r b level cell       a bound of the figure, from a bound r of the root and a bound b of each cell's details
---   Bounded n depth r b t        r and b bound the table t, down to the depth
---   figure-within                and so its figures are within their bounds
+--   figure-within                the figures of a table that r and b bound are within their bounds
 --   bound-const                  where b is k throughout, the bound is B^level k − k + r
 --   bound-scale                  m times the bounds of the root and the details, and the bound is m times as large
 --   stored-bounded               a list of entries within k is bounded by k throughout
 use mathlib.Core.Path.{_≡_, refl, sym, ap, subst}
 use mathlib.Core.List.{List, [], _∷_}
-use Prim.Native.Nat.{ℕ, zero, suc, _+_, _*_, _^_, _<_, _≤_}
+use Prim.Native.Nat.{ℕ, zero, suc, _+_, _*_, _^_, _≤_}
 use native.Mathlib.Omega.{arith}
 use native.Mathlib.Nat.{pow-succ', pow-zero}
 use lib.ListN.{getD}
@@ -20,7 +19,7 @@ use Rattle.integers.specs.RangeSum.{Σ-within}
 use Rattle.integers.specs.Within.{Within, within-is, within-add, within-scale, within-sign}
 use Rattle.haar.specs.Signs.{sign}
 use Rattle.haar.specs.Cells.{children, details, Cell, Below, parent, childNumber}
-use Rattle.haar.specs.Table.{Coefficients, index, stored}
+use Rattle.haar.specs.Table.{Coefficients, Bounded, index, stored}
 use Rattle.haar.specs.Figures.{signedDetails, figure}
 use Rattle.haar.specs.Laws.Cells.{below-parent, next-level}
 use Rattle.haar.specs.Laws.Signs.{sign-cases}
@@ -30,11 +29,6 @@ use Rattle.haar.specs.Laws.Figures.{figure-root, figure-next}
 unfoldable pub bound : (n r : ℕ) → (ℕ → Cell n → ℕ) → ℕ → Cell n → ℕ
 bound n r b zero cell = r
 bound n r b (suc j) cell = bound n r b j (parent n cell) + children n ^ j * (details n * b j (parent n cell))
-
-pub record Bounded (n depth r : ℕ) (b : ℕ → Cell n → ℕ) (t : Coefficients n) : Type 0 where
-  pub root-within : Within (pos r) (t .root)
-  pub detail-within : (j : ℕ) → j < depth → (cell : Cell n) → Below n (2 ^ j) cell → (e : ℕ) → 1 ≤ e → e ≤ details n
-      → Within (pos (b j cell)) (t .detail j cell e)
 
 signedDetails-within : {b : ℤ} (n : ℕ) (w : ℕ → ℤ) → ((e : ℕ) → 1 ≤ e → e ≤ details n → Within b (w e)) → (c : ℕ)
     → Within (pos (details n) *ℤ b) (signedDetails n w c)

@@ -4,7 +4,7 @@
 --   full-pos                     a tile's full figure is above 0
 --   grey-clamp, grey-byte        a grey is the rounded fraction, held; it is at most 255
 --   grey-mono, greyOf-mono       a larger fraction, or a larger figure, has no smaller grey
---   OneApart, greys-one-apart    fractions at most a 255th of the full figure apart have greys at most one apart
+--   greys-one-apart              fractions at most a 255th of the full figure apart have greys at most one apart
 --   grey-whole                   n 255ths of the full figure have the grey n
 --   grey-white, grey-full        a figure of 0 or less is white; one of the full figure or more has the full grey
 use mathlib.Core.Path.{_≡_, sym, _∙_, ap, subst⁻¹, subst₂}
@@ -22,7 +22,7 @@ use Rattle.integers.specs.Within.{Within, bounds, within-self}
 use Rattle.integers.specs.Clamp.{clamp, clamp-low, clamp-high, clamp-inside, clamp-mono, clamp-moves}
 use Rattle.integers.specs.Rounding.{roundHalfUp}
 use Rattle.integers.specs.RoundHalfUp.{roundHalfUp-mono, roundHalfUp-mul, roundHalfUp-one-apart}
-use Rattle.haar.specs.Greys.{full, grey, greyOf}
+use Rattle.haar.specs.Greys.{full, grey, greyOf, OneApart}
 
 pub full-pos : {side : ℕ} → 0 < side → 0 < full side
 full-pos {side} s = let k : 0 < side * side = mul-pos s s in omega arith
@@ -70,11 +70,6 @@ module _ {side : ℕ} (s : 0 < side) (a b : ℤ) {d e : ℕ} (g : 0 < d) (h : 0 
 
 pub greyOf-mono : {side : ℕ} {f g : ℤ} → 0 < side → f ≤ℤ g → greyOf side f ≤ greyOf side g
 greyOf-mono {side} {f} {g} s k = grey-mono s f g (omega arith) (omega arith) (lin≤ (f ∷ g ∷ []) (le k) (search linear depth 40) tt)
-
--- at most one apart
-pub record OneApart (a b : ℕ) : Type 0 where
-  pub up : a ≤ b + 1
-  pub down : b ≤ a + 1
 
 -- 255 × |a / d − b / e| ≤ full
 pub greys-one-apart : {side : ℕ} → 0 < side → (a b : ℤ) {d e : ℕ} → 0 < d → 0 < e
