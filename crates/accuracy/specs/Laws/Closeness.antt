@@ -2,7 +2,7 @@
 -- misses by is itself the figure of a table, that of the errors, since figures are linear in the table.
 --
 -- Main results
---   miss-by-edges                in half units, at most the sum over the levels j above of 3 × 4^j times the edges counted in that level's cell
+--   miss-by-edges                in half units, at most the sum over the levels j < L of 3 × 4^j times the edges counted in that level's cell
 --   miss-within                  so at most (4^L − 1) × edges half units
 --   miss-zero                    and nothing, where every edge is level, upright or at 45 degrees
 use mathlib.Core.Path.{_≡_, refl, _∙_, ap}
