@@ -1,12 +1,11 @@
--- Demand 3, of the definitions: how near what is drawn of an outline's table is to the outline's exact areas. `Theorem` has that it holds. What 01 says besides
--- of calls (none is refused, one cell alone, what the table held before) is for the crate that has the calls.
+-- Demand 3, of the definitions: how near what is drawn of an outline's table is to the outline's exact areas. `Theorem` has that it holds. What 01 says
+-- besides of calls (none is refused, one cell alone, "the table that building left, unwritten since") is for the crate that has the calls.
 --
 -- An exact area is the fraction `exactAreaNum / denominator`, so an equation or a bound of it stands here `denominator es` times over.
 --
 -- Definitions
 --   miss depth es level cx cy         how far the figure of a cell lies from 4^level times its exact area, `denominator es` times over
---   missLimit level edges             twice 01's limit of it
---   quarterOf area w a b              area ± h ± v ± d, with the signs of quarter (a, b)
+--   missLimit level edges             twice 01's limit of that distance, in units: (4^level − 1) × edges
 --   Accurate depth es                 what is promised of the edges es of an outline on a tile of side 2^depth
 --   AccurateOutline depth contours    and of the outline
 use mathlib.Core.Path.{_≡_}
@@ -17,14 +16,13 @@ use lib.IntN.{ℤ, pos, _+ℤ_, _-ℤ_, _*ℤ_}
 use lib.Signed.{_≤ℤ_}
 use Rattle.integers.specs.Units.{greatestDepth, mostEdges, builtEntryLimit}
 use Rattle.integers.specs.Magnitude.{abs}
-use Rattle.integers.specs.HalfSign.{halfSign}
 use Rattle.integers.specs.ListSum.{All, total, tally}
 use Rattle.edge.specs.declared.Edge.{Edge}
 use Rattle.edge.specs.Octilinear.{Octilinear}
 use Rattle.haar.specs.Table.{Bounded}
 use Rattle.haar.specs.Pictures.{picture}
 use Rattle.haar.specs.Greys.{grey, greyOf, OneApart}
-use Rattle.haar.specs.Plane.{dimensions, hDetail, vDetail, dDetail, at, figureAt}
+use Rattle.haar.specs.Plane.{dimensions, quarterDetails, at, figureAt}
 use Rattle.accuracy.specs.Outline.{Point, outlineEdges, signedArea}
 use Rattle.accuracy.specs.Tile.{CellOf}
 use Rattle.accuracy.specs.ExactArea.{denominator, exactAreaNum}
@@ -37,26 +35,23 @@ miss depth es level cx cy = figureAt (outlineTable depth es) level cx cy *ℤ po
 abbrev pub missLimit : ℕ → ℕ → ℕ
 missLimit level edges = (4 ^ level - 1) * edges
 
--- "h plus on the left, v plus above, d plus in the upper left and lower right": a is 0 on the left and 1 on the right, b is 0 above and 1 below
-abbrev pub quarterOf : ℤ → (ℕ → ℤ) → ℕ → ℕ → ℤ
-quarterOf area w a b = area +ℤ halfSign a *ℤ w hDetail +ℤ halfSign b *ℤ w vDetail +ℤ halfSign a *ℤ halfSign b *ℤ w dDetail
-
 pub record Accurate (depth : ℕ) (es : List Edge) : Type 0 where
+  -- else what follows would say nothing
   pub denominator-positive : 0 < denominator es
-  -- ---- the wavelet: the signed area is the exact area of the tile, and 4 × area(quarter) = area ± h ± v ± d. The four quarters' equations together say that
-  -- their areas add up to the cell's, and that h, v and d are 01's differences of areas.
+  -- ---- the wavelet: the signed area is the exact area of the tile, and 4 × area(quarter) = area ± h ± v ± d. The four quarters' equations together say
+  -- that their areas add up to the cell's, and that h, v and d are 01's differences of areas.
   pub whole : exactAreaNum depth es 0 (at 0 0) ≡ signedArea es *ℤ pos (denominator es)
   pub quarter : (j cx cy : ℕ) → j < depth
       → pos 4 *ℤ exactAreaNum depth es (suc j) (at cx cy)
-      ≡ quarterOf (exactAreaNum depth es j (at (cx / 2) (cy / 2))) (exactDetailNum depth es j (at (cx / 2) (cy / 2))) (cx % 2) (cy % 2)
+      ≡ exactAreaNum depth es j (at (cx / 2) (cy / 2)) +ℤ quarterDetails (exactDetailNum depth es j (at (cx / 2) (cy / 2))) (cx % 2) (cy % 2)
   -- ---- what is drawn
   -- "A level L figure differs from 4^L times the exact area by at most (4^L − 1) × edges / 2"
   pub close : (level cx cy : ℕ) → CellOf depth level cx cy
       → (pos 2 *ℤ abs (miss depth es level cx cy)) ≤ℤ pos (missLimit level (length es) * denominator es)
   -- "It is equal where every edge is level, upright or at 45 degrees."
   pub equal : All Octilinear es → (level cx cy : ℕ) → CellOf depth level cx cy → miss depth es level cx cy ≡ pos 0
-  -- "Each grey is at most one from the exact area's grey", which "comes by the rule above from 4^L times the cell's exact area in place of the figure", where the
-  -- edges are at most 1,024, question 5's limit
+  -- "Each grey is at most one from the exact area's grey", which "comes by the rule above from 4^L times the cell's exact area in place of the figure",
+  -- where the edges are at most 1,024, question 5's limit
   pub greys : length es ≤ mostEdges → (level cx cy : ℕ) → CellOf depth level cx cy
       → OneApart (greyOf (2 ^ depth) (figureAt (outlineTable depth es) level cx cy))
       (grey (2 ^ depth) (pos (4 ^ level) *ℤ exactAreaNum depth es level (at cx cy)) (denominator es))

@@ -3,6 +3,7 @@
 -- Definitions
 --   numbered w k                          h, v or d of w, by its number
 --   unrounded e square                    the numerators of one edge's exact h, v and d
+--   detailNum square k e                  the same by its number
 --   exactDetailNum depth es j cell k      the numerator of exact detail k of a cell: the detail is this over `denominator es`
 use mathlib.Core.List.{List}
 use Prim.Native.Nat.{ℕ, zero, suc}
@@ -28,5 +29,8 @@ numbered w (suc (suc (suc (suc k)))) = pos 0
 abbrev pub unrounded : Edge → Square → Details
 unrounded e s = record { h = hNum e s; v = vNum e s; d = dNum e s }
 
+abbrev pub detailNum : Square → ℕ → Edge → ℤ
+detailNum s k e = numbered (unrounded e s) k
+
 abbrev pub exactDetailNum : ℕ → List Edge → ℕ → Cell dimensions → ℕ → ℤ
-exactDetailNum depth es j cell k = numer steps (λ e. numbered (unrounded e (square depth j cell)) k) es
+exactDetailNum depth es j cell k = numer steps (detailNum (square depth j cell) k) es

@@ -2,6 +2,7 @@
 
 -- the edges of an outline: around closed contours, what depends on the end points alone cancels
 pub mod Contours
+pub mod OnTile
 -- a cell of the next level is a quarter
 pub mod Squares
 -- the exact areas: a quarter's from its cell's, and the whole tile's
@@ -13,11 +14,11 @@ pub mod ExactFigures
 pub mod Numbered
 -- what rounding does to each edge's details
 pub mod RoundingErrors
--- so how far a figure misses: a sum over the cells that it lies in, and the edges that come inside
+-- so how far a figure misses: a sum over the cells in which its cell lies, of the edges that come inside
 pub mod Closeness
 -- and how far two greys are apart
 pub mod CloseGreys
--- the table: how large its entries are, that the order of edges does not matter, and walked the other way
+-- the table: how large its entries are, that the order of edges does not matter, and that an outline walked the other way has the opposite one
 pub mod EntryBounds
 pub mod Order
 pub mod Reversal

@@ -6,10 +6,11 @@
 --   through p qs last            the edges from p through the points qs to the last
 --   contourEdges, outlineEdges   the edges of one contour, and of all contours of an outline
 --   signedArea es                the signed area that edges enclose, in 01's units of half a square step
---   gain f e, Closed es          what a function of a point gains along an edge; in closed edges the gains add up to 0
+--   gain f e, ClosedEdges es     what a function of a point gains along an edge; in closed edges the gains add up to 0
 use mathlib.Core.Path.{_≡_}
 use mathlib.Core.List.{List, [], _∷_, _++_}
-use lib.IntN.{ℤ, pos, _-ℤ_}
+use lib.IntN.{ℤ, pos, _-ℤ_, _*ℤ_}
+use Rattle.integers.specs.Ring.{read, ring}
 use Rattle.integers.specs.ListSum.{total}
 use Rattle.edge.specs.declared.Edge.{Edge}
 use Rattle.edge.specs.Rounded.{rootTerm}
@@ -39,10 +40,18 @@ outlineEdges (c ∷ cs) = contourEdges c ++ outlineEdges cs
 abbrev pub signedArea : List Edge → ℤ
 signedArea es = total rootTerm es
 
--- Each point of a contour is the end of one edge and the start of the next, so whatever is gained along its edges adds up to 0. This is all that the proof
--- knows of contours; it does not depend on the order of the edges.
+-- A check: "Letters are traced clockwise as seen on the page". A square so traced, w steps wide, has its area, w² square steps, and not the opposite.
+abbrev corner : ℤ → ℤ → Point
+corner x y = record { x = x; y = y }
+
+clockwise : (w : ℤ) → signedArea (contourEdges (corner (pos 0) (pos 0) ∷ corner w (pos 0) ∷ corner w w ∷ corner (pos 0) w ∷ [])) ≡ pos 2 *ℤ (w *ℤ w)
+unfolding contourEdges through total rootTerm
+clockwise w = ring (w ∷ []) (search read depth 40) tt
+
+-- Each point of a contour is the end of one edge and the start of the next, so whatever is gained along its edges adds up to 0. This is all that the
+-- proof of `Accurate` knows of contours; it does not depend on the order of the edges.
 abbrev pub gain : (ℤ → ℤ → ℤ) → Edge → ℤ
 gain f e = f (e .x1) (e .y1) -ℤ f (e .x0) (e .y0)
 
-pub record Closed (es : List Edge) : Type 0 where
+pub record ClosedEdges (es : List Edge) : Type 0 where
   pub cancels : (f : ℤ → ℤ → ℤ) → total (gain f) es ≡ pos 0

@@ -3,7 +3,9 @@
 -- Definitions
 --   details             h, v and d, each rounded on its own
 --   rootTerm            the edge's term of the signed area
-use lib.IntN.{ℤ, _-ℤ_, _*ℤ_}
+--   Exact               rounding keeps the three details
+use mathlib.Core.Path.{_≡_}
+use lib.IntN.{ℤ, pos, _-ℤ_, _*ℤ_}
 use Rattle.integers.specs.Rounding.{roundHalfAway}
 use Rattle.edge.specs.declared.Edge.{Edge}
 use Rattle.edge.specs.declared.Cell.{Cell}
@@ -18,3 +20,9 @@ details e c = record { h = roundHalfAway (hNum e c) (steps e); v = roundHalfAway
 -- "Signed area in units is the sum over edges of x0 × y1 − x1 × y0"
 unfoldable pub rootTerm : Edge → ℤ
 rootTerm e = e .x0 *ℤ e .y1 -ℤ e .x1 *ℤ e .y0
+
+-- rounding leaves the edge's three details in the cell as they are: they are whole
+pub record Exact (e : Edge) (c : Cell) : Type 0 where
+  pub h : roundHalfAway (hNum e c) (steps e) *ℤ pos (steps e) ≡ hNum e c
+  pub v : roundHalfAway (vNum e c) (steps e) *ℤ pos (steps e) ≡ vNum e c
+  pub d : roundHalfAway (dNum e c) (steps e) *ℤ pos (steps e) ≡ dNum e c

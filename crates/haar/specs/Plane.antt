@@ -3,12 +3,14 @@
 -- Definitions
 --   dimensions                   x and y
 --   hDetail, vDetail, dDetail    the numbers of h, v and d
+--   quarterDetails w a b         ± h ± v ± d, of a cell's details w, with the signs of quarter (a, b)
 --   at cx cy                     cell (cx, cy)
 --   figureAt t level cx cy       its figure
 --   figureIn, pictureIn          figures and pictures from a list of entries
 use mathlib.Core.List.{List}
 use Prim.Native.Nat.{ℕ}
-use lib.IntN.{ℤ}
+use lib.IntN.{ℤ, _+ℤ_, _*ℤ_}
+use Rattle.integers.specs.HalfSign.{halfSign}
 use Rattle.haar.specs.Cells.{Cell}
 use Rattle.haar.specs.Table.{Coefficients, stored}
 use Rattle.haar.specs.Figures.{figure}
@@ -27,6 +29,10 @@ vDetail = 2
 
 abbrev pub dDetail : ℕ
 dDetail = 3
+
+-- "h plus on the left, v plus above, d plus in the upper left and lower right": a is 0 on the left and 1 on the right, b is 0 above and 1 below
+abbrev pub quarterDetails : (ℕ → ℤ) → ℕ → ℕ → ℤ
+quarterDetails w a b = halfSign a *ℤ w hDetail +ℤ halfSign b *ℤ w vDetail +ℤ halfSign a *ℤ halfSign b *ℤ w dDetail
 
 abbrev pub at : ℕ → ℕ → Cell dimensions
 at cx cy = (cx, (cy, tt))

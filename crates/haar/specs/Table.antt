@@ -4,7 +4,9 @@
 --   Coefficients n               a root, and detail e of each cell of each level
 --   index n j cell e             where detail e of a cell of level j stands in the list
 --   stored n entries             the coefficients that a list of entries holds
+--   SameBelow n depth t u        two tables have the same root, and the same details at every level below the depth
 --   Bounded n depth r b t        r bounds the root of t, either way, and b each cell's details at every level below the depth
+use mathlib.Core.Path.{_≡_}
 use mathlib.Core.List.{List}
 use Prim.Native.Nat.{ℕ, _+_, _*_, _-_, _^_, _<_, _≤_}
 use lib.ListN.{getD}
@@ -32,3 +34,8 @@ pub record Bounded (n depth r : ℕ) (b : ℕ → Cell n → ℕ) (t : Coefficie
   pub root-within : Within (pos r) (t .root)
   pub detail-within : (j : ℕ) → j < depth → (cell : Cell n) → Below n (2 ^ j) cell → (e : ℕ) → 1 ≤ e → e ≤ details n
       → Within (pos (b j cell)) (t .detail j cell e)
+
+pub record SameBelow (n depth : ℕ) (t u : Coefficients n) : Type 0 where
+  pub same-root : t .root ≡ u .root
+  pub same-detail : (j : ℕ) → j < depth → (cell : Cell n) → Below n (2 ^ j) cell → (e : ℕ) → 1 ≤ e → e ≤ details n
+      → t .detail j cell e ≡ u .detail j cell e

@@ -3,7 +3,7 @@
 -- Main results
 --   all-of, all-map, all-append       of `All P l`, every element of l has the property P
 --   total-cong, total-add, total-scale, total-neg, total-append, total-const     as of any finite sum
---   total-within                      terms bounded each by its own bound are bounded by the bounds' sum
+--   total-within, total-bounded       terms bounded each by its own bound are bounded by the bounds' sum; each by b, by as many times b
 --   total-perm                        the order of the list does not matter
 --   total-map                         the sum over the images of a list's elements
 --   tally, tally-total, tally-const   a count over a list: a sum of natural numbers
@@ -16,7 +16,7 @@ use lib.ListN.{length}
 use lib.IntN.{ℤ, pos, negℤ, _+ℤ_, _*ℤ_, ℤ-set}
 use lib.Signed.{≤ℤ-refl}
 use Rattle.integers.specs.Ring.{read, ring, comb, _⊕_}
-use Rattle.integers.specs.Within.{Within, within-add, within-self}
+use Rattle.integers.specs.Within.{Within, within-is, within-add, within-self}
 
 -- ---- every element has the property
 abbrev pub All : {A : Type 0} → (A → Type 0) → List A → Type 0
@@ -75,6 +75,9 @@ module _ {A : Type 0} where
   unfolding total
   total-within b f [] h = within-self (≤ℤ-refl (pos 0))
   total-within b f (a ∷ l) h = within-add (h .0) (total-within b f l (h .1))
+
+  pub total-bounded : (b : ℕ) (f : A → ℤ) (l : List A) → All (λ a. Within (pos b) (f a)) l → Within (pos (length l * b)) (total f l)
+  total-bounded b f l h = within-is (total-const (pos b) l) refl (total-within (λ a. pos b) f l h)
 
   -- ---- the order does not matter
   total-permᴰ : (f : A → ℤ) {k l : List A} → List·Permᴰ k l → total f k ≡ total f l

@@ -1,4 +1,4 @@
--- Figures that miss by little have greys at most one apart: half a unit for each of at most `mostEdges` edges, as many times as the tile has pixels at most.
+-- A miss of half a unit for each of `mostEdges` edges, as many times over as the tile has pixels, or a smaller one, moves a grey by at most one.
 --
 -- Main results
 --   close-greys                  the grey of a figure f and that of a fraction a / den, so near to each other

@@ -1,5 +1,5 @@
--- How far a figure misses 4^L times the exact area: as far as the rounding errors of the cells in which it lies, each counted 4^j times. What a figure
--- misses by is itself the figure of a table, that of the errors, since figures are linear in the table.
+-- How far a figure misses 4^L times the exact area: as far as the rounding errors of the cells in which its cell lies, each counted 4^j times. What a
+-- figure misses by is itself the figure of a table, that of the errors, since figures are linear in the table.
 --
 -- Main results
 --   miss-by-edges                in half units, at most the sum over the levels j < L of 3 × 4^j times the edges counted in that level's cell

@@ -11,7 +11,7 @@ use lib.ListN.{length, length-append}
 use lib.IntN.{ℤ, pos, _+ℤ_, _-ℤ_}
 use Rattle.integers.specs.Ring.{read, ring, comb}
 use Rattle.integers.specs.ListSum.{All, all-append, total, total-append, tally}
-use Rattle.accuracy.specs.Outline.{Point, through, contourEdges, outlineEdges, gain, Closed}
+use Rattle.accuracy.specs.Outline.{Point, through, contourEdges, outlineEdges, gain, ClosedEdges}
 use Rattle.accuracy.specs.Tile.{OnTile, EdgeOnTile, ClosedOnTile}
 
 -- ---- how many
@@ -51,7 +51,7 @@ module _ (f : ℤ → ℤ → ℤ) where
   outline-gain [] = refl
   outline-gain (c ∷ cs) = total-append (gain f) (contourEdges c) (outlineEdges cs) ∙ ap₂ _+ℤ_ (contour-gain c) (outline-gain cs)
 
-pub outline-closed : (cs : List (List Point)) → Closed (outlineEdges cs)
+pub outline-closed : (cs : List (List Point)) → ClosedEdges (outlineEdges cs)
 outline-closed cs = record { cancels = λ f. outline-gain f cs }
 
 -- ---- on the tile

@@ -3,8 +3,7 @@
 -- Main results
 --   entries-bounded              every entry is at most the number of edges times s²
 --   built-entries                and so at most `builtEntryLimit` for a depth and a number of edges that are accepted
-use mathlib.Core.Path.{refl}
-use mathlib.Core.List.{List, [], _∷_}
+use mathlib.Core.List.{List}
 use Prim.Native.Nat.{ℕ, _*_, _^_, _≤_}
 use native.Mathlib.Omega.{arith}
 use native.Mathlib.Nat.{le-trans, sub-le, sub-le-sub-left, mul-le-mul, mul-le-mul-left, pow-le-pow-right}
@@ -12,32 +11,21 @@ use lib.ListN.{length}
 use lib.IntN.{ℤ, pos, _*ℤ_}
 use lib.Signed.{_≤ℤ_}
 use Rattle.integers.specs.Units.{stepsPerPixel, greatestDepth, greatestCoordinate, mostEdges, builtEntryLimit}
-use Rattle.integers.specs.Order.{nonneg, pos-≤ℤ, ≤ℤ-mul, ≤ℤ-mul-nonneg}
-use Rattle.integers.specs.Linear.{le, _&_, linear, lin≤}
+use Rattle.integers.specs.Order.{nonneg, pos-≤ℤ}
 use Rattle.integers.specs.Magnitude.{abs, abs-nonneg}
-use Rattle.integers.specs.Within.{Within, within-le, within-is, within-self, within-mul, abs-of-within}
-use Rattle.integers.specs.ListSum.{All, all-map, total, total-const, total-within}
+use Rattle.integers.specs.Within.{Within, within-le, within-self, within-mul, abs-of-within}
+use Rattle.integers.specs.ListSum.{All, all-map, total-bounded}
 use Rattle.edge.specs.declared.Edge.{Edge}
 use Rattle.edge.specs.Rounded.{details, rootTerm}
-use Rattle.edge.specs.Laws.Cells.{difference-on}
+use Rattle.edge.specs.Laws.Cells.{difference-on, product-on}
 use Rattle.edge.specs.Laws.Bounds.{rounded-h-bound, rounded-v-bound, rounded-d-bound}
 use Rattle.edge.specs.Laws.WholeTile.{OnRange}
 use Rattle.haar.specs.Table.{Bounded}
 use Rattle.haar.specs.Plane.{dimensions}
-use Rattle.accuracy.specs.Tile.{span, square, EdgeOnTile}
+use Rattle.accuracy.specs.Tile.{cellWidth, square, EdgeOnTile}
 use Rattle.accuracy.specs.OutlineTable.{edgeTable, outlineTable}
-use Rattle.accuracy.specs.Laws.Squares.{from-zero}
+use Rattle.accuracy.specs.Laws.OnTile.{from-zero}
 use Rattle.accuracy.specs.Laws.Numbered.{by-number}
-
--- ---- the product of two coordinates between 0 and w
-range-mul : {w p q : ℤ} → OnRange (pos 0) w p → OnRange (pos 0) w q → OnRange (pos 0) (w *ℤ w) (p *ℤ q)
-range-mul {w} {p} {q} i j = record {
-  low = ≤ℤ-mul-nonneg (i .low) (j .low);
-  -- w² − p q = (w − p) q + p (w − q) + (w − p) (w − q)
-  high =
-      lin≤ (w ∷ p ∷ q ∷ []) (le (≤ℤ-mul (i .high) (j .low)) & le (≤ℤ-mul (i .low) (j .high)) & le (≤ℤ-mul (i .high) (j .high)))
-      (search linear depth 40) tt;
-}
 
 -- ---- widths: no cell is wider than the tile, and no tile than the greatest
 width-le : {i j : ℕ} → i ≤ j → stepsPerPixel * 2 ^ i ≤ stepsPerPixel * 2 ^ j
@@ -46,13 +34,13 @@ width-le h = mul-le-mul-left stepsPerPixel (pow-le-pow-right {n = 2} (omega arit
 -- ---- what one edge adds
 -- To the root, the difference of two products of coordinates, neither below 0; to a detail, how far it runs in x or in y times the cell's width.
 edge-bounded : {depth : ℕ} {e : Edge} → EdgeOnTile depth e
-    → Bounded dimensions depth (span depth 0 * span depth 0) (λ j cell. span depth 0 * span depth 0) (edgeTable depth e)
+    → Bounded dimensions depth (cellWidth depth 0 * cellWidth depth 0) (λ j cell. cellWidth depth 0 * cellWidth depth 0) (edgeTable depth e)
 unfolding rootTerm
 edge-bounded {depth} {e} on = record {
-  root-within = difference-on (range-mul x1 y0) (range-mul x0 y1);
+  root-within = difference-on (product-on x1 y0) (product-on x0 y1);
   detail-within = λ j i cell b k m n.
       let c = square depth j cell in
-      let w≥0 = nonneg (span depth j) in
+      let w≥0 = nonneg (cellWidth depth j) in
       let x = run-le j (difference-on x0 x1) in
       let y = run-le j (difference-on y0 y1) in
       by-number (Within (pos (s * s))) (details e c)
@@ -60,7 +48,7 @@ edge-bounded {depth} {e} on = record {
 }
   where
     s : ℕ
-    s = span depth 0
+    s = cellWidth depth 0
 
     x0 : OnRange (pos 0) (pos s) (e .x0)
     x0 = from-zero (on .start .x-low) (on .start .x-high)
@@ -74,21 +62,18 @@ edge-bounded {depth} {e} on = record {
     y1 : OnRange (pos 0) (pos s) (e .y1)
     y1 = from-zero (on .end .y-low) (on .end .y-high)
 
-    run-le : {run : ℤ} (j : ℕ) → Within (pos s) run → (abs run *ℤ pos (span depth j)) ≤ℤ pos (s * s)
+    run-le : {run : ℤ} (j : ℕ) → Within (pos s) run → (abs run *ℤ pos (cellWidth depth j)) ≤ℤ pos (s * s)
     run-le {run} j h =
-        let narrow : span depth j ≤ s = width-le (sub-le-sub-left {n = 0} (omega arith) depth) in
+        let narrow : cellWidth depth j ≤ s = width-le (sub-le-sub-left {n = 0} (omega arith) depth) in
         within-mul (within-le (abs-of-within h) (within-self (abs-nonneg run)))
-        (within-le (pos-≤ℤ narrow) (within-self (nonneg (span depth j)))) .high
+        (within-le (pos-≤ℤ narrow) (within-self (nonneg (cellWidth depth j)))) .high
 
 -- ---- what all of them add
-total-bounded : (b : ℕ) (f : Edge → ℤ) (es : List Edge) → All (λ e. Within (pos b) (f e)) es → Within (pos (length es * b)) (total f es)
-total-bounded b f es h = within-is (total-const (pos b) es) refl (total-within (λ e. pos b) f es h)
-
 pub entries-bounded : {depth : ℕ} (es : List Edge) → All (EdgeOnTile depth) es
-    → Bounded dimensions depth (length es * (span depth 0 * span depth 0)) (λ j cell. length es * (span depth 0 * span depth 0))
+    → Bounded dimensions depth (length es * (cellWidth depth 0 * cellWidth depth 0)) (λ j cell. length es * (cellWidth depth 0 * cellWidth depth 0))
     (outlineTable depth es)
 entries-bounded {depth} es on =
-    let b = span depth 0 * span depth 0 in
+    let b = cellWidth depth 0 * cellWidth depth 0 in
     record {
       root-within = total-bounded b rootTerm es (all-map (λ e h. edge-bounded {depth = depth} h .root-within) es on);
       detail-within = λ j i cell c k m n.
@@ -98,7 +83,7 @@ entries-bounded {depth} es on =
 pub built-entries : {depth : ℕ} (es : List Edge) → All (EdgeOnTile depth) es → depth ≤ greatestDepth → length es ≤ mostEdges
     → Bounded dimensions depth builtEntryLimit (λ j cell. builtEntryLimit) (outlineTable depth es)
 built-entries {depth} es on g h =
-    let s : span depth 0 ≤ greatestCoordinate = width-le (le-trans (sub-le depth 0) g) in
+    let s : cellWidth depth 0 ≤ greatestCoordinate = width-le (le-trans (sub-le depth 0) g) in
     let b = pos-≤ℤ (mul-le-mul h (mul-le-mul s s)) in
     let t = entries-bounded es on in
     record {

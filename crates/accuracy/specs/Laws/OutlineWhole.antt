@@ -17,12 +17,12 @@ use Rattle.edge.specs.Integrals.{areaNum}
 use Rattle.edge.specs.Rounded.{rootTerm}
 use Rattle.edge.specs.Laws.WholeTile.{OnCell, rootBoundary, whole-tile}
 use Rattle.haar.specs.Plane.{at}
-use Rattle.accuracy.specs.Outline.{signedArea, gain, Closed}
+use Rattle.accuracy.specs.Outline.{signedArea, gain, ClosedEdges}
 use Rattle.accuracy.specs.Tile.{tile, ClosedOnTile}
 use Rattle.accuracy.specs.ExactArea.{denominator, exactAreaNum}
-use Rattle.accuracy.specs.Laws.Squares.{on-cell}
+use Rattle.accuracy.specs.Laws.OnTile.{on-cell}
 
-pub edges-whole : {es : List Edge} → Closed es → (c : Square) → All (OnCell c) es → numer steps (λ e. areaNum e c) es ≡ signedArea es *ℤ pos (denominator es)
+pub edges-whole : {es : List Edge} → ClosedEdges es → (c : Square) → All (OnCell c) es → numer steps (λ e. areaNum e c) es ≡ signedArea es *ℤ pos (denominator es)
 edges-whole {es} closed c on =
     numer-cong steps (λ e. areaNum e c) (λ e. term e *ℤ pos (steps e)) es (all-map each es on)
     ∙ numer-whole steps term es

@@ -65,7 +65,6 @@ outlineEdges-reverse [] = Perm·nil
 outlineEdges-reverse (c ∷ cs) =
     rw (map-append reverse (contourEdges c) (outlineEdges cs)) (Perm·append (contourEdges-reverse c) (outlineEdges-reverse cs))
 
--- as 01's letters B and H are A and G reversed
 pub outline-reversed : (depth : ℕ) (cs : List (List Point))
     → outlineTable depth (outlineEdges (map backwards cs)) ≡ negated (outlineTable depth (outlineEdges cs))
 outline-reversed depth cs = outlineTable-perm depth (Perm·symm (outlineEdges-reverse cs)) ∙ outlineTable-reverse depth (outlineEdges cs)

@@ -1,18 +1,16 @@
--- How far each edge's own rounding moves its details: at most half a unit, and not at all in a cell that it does not come strictly inside, nor where it is
--- level, upright or at 45 degrees.
+-- How far each edge's own rounding moves its details: at most half a unit, and not at all in a cell that it does not come strictly inside, nor where
+-- it is level, upright or at 45 degrees.
 --
 -- Main results
---   outside-exact                rounding keeps the details of an edge in a square that it does not come strictly inside
 --   Counts depth es k            k counts each edge at least once in each cell in which rounding may move its details
 --   counts-inside                so k does if it counts each edge that comes strictly inside the cell
 --   counts-octilinear            and if it counts nothing, where every edge is level, upright or at 45 degrees
 --   detail-misses                the table's details miss the exact ones by at most as many half units as k counts edges
-use mathlib.Core.Path.{_≡_, refl, sym, _∙_, ap}
+use mathlib.Core.Path.{_≡_, refl, sym, ap}
 use mathlib.Core.List.{List, [], _∷_}
 use Prim.Native.Nat.{ℕ, zero, suc, _*_, _<_, _≤_}
-use lib.IntN.{ℤ, pos, _-ℤ_, _*ℤ_}
-use lib.Signed.{_≤ℤ_}
-use Rattle.integers.specs.Ring.{read, ring, comb}
+use lib.IntN.{pos, _-ℤ_, _*ℤ_}
+use Rattle.integers.specs.Ring.{read, ring}
 use Rattle.integers.specs.Order.{nonneg}
 use Rattle.integers.specs.Linear.{le, linear, lin≤}
 use Rattle.integers.specs.Within.{Within, within-is, within-le}
@@ -23,23 +21,19 @@ use Rattle.edge.specs.declared.Edge.{Edge}
 use Rattle.edge.specs.declared.Cell.{Cell as Square}
 use Rattle.edge.specs.Walk.{steps}
 use Rattle.edge.specs.Inside.{Inside}
-use Rattle.edge.specs.Rounded.{details}
+use Rattle.edge.specs.Rounded.{details, Exact}
 use Rattle.edge.specs.Octilinear.{Octilinear}
 use Rattle.edge.specs.Laws.StepCount.{steps-pos, rounded-whole}
-use Rattle.edge.specs.Laws.Zero.{h-zero, v-zero, d-zero}
-use Rattle.edge.specs.Laws.OctilinearEdges.{Exact, octilinear-exact}
+use Rattle.edge.specs.Laws.Zero.{outside-exact}
+use Rattle.edge.specs.Laws.OctilinearEdges.{octilinear-exact}
 use Rattle.haar.specs.Cells.{Cell, details as detailCount}
 use Rattle.haar.specs.Plane.{dimensions}
-use Rattle.accuracy.specs.Tile.{span, square}
+use Rattle.accuracy.specs.Tile.{cellWidth, square}
 use Rattle.accuracy.specs.ExactArea.{denominator}
-use Rattle.accuracy.specs.ExactDetails.{numbered, unrounded, exactDetailNum}
+use Rattle.accuracy.specs.ExactDetails.{numbered, unrounded, detailNum, exactDetailNum}
 use Rattle.accuracy.specs.OutlineTable.{outlineTable}
 use Rattle.accuracy.specs.Laws.Numbered.{by-number, numbered-each}
-use Rattle.accuracy.specs.Laws.Squares.{span-halves}
-
--- the numerator of detail number d
-abbrev detailNum : Square → ℕ → Edge → ℤ
-detailNum s d e = numbered (unrounded e s) d
+use Rattle.accuracy.specs.Laws.Squares.{cellWidth-halves}
 
 -- each is rounded on its own
 numbered-rounded : (e : Edge) (s : Square) (d : ℕ) → numbered (details e s) d ≡ roundHalfAway (detailNum s d e) (steps e)
@@ -48,15 +42,6 @@ numbered-rounded e s d =
     numbered-each (λ z. roundHalfAway z (steps e)) (rounded-whole e (pos 0) (ring (pos (steps e) ∷ []) (search read depth 40) tt)) (unrounded e s) d
 
 -- ---- where rounding keeps an edge's details
--- they are 0 there, a whole number
-pub outside-exact : (e : Edge) (s : Square) → pos 0 ≤ℤ s .width → (Inside e s → ⊥) → Exact e s
-outside-exact e s w none = record { h = kept (h-zero e s w none); v = kept (v-zero e s w none); d = kept (d-zero e s w none) }
-  where
-    kept : {z : ℤ} → z ≡ pos 0 → roundHalfAway z (steps e) *ℤ pos (steps e) ≡ z
-    kept {z} p =
-        let zero-times : z ≡ pos 0 *ℤ pos (steps e) = comb (z ∷ pos (steps e) ∷ []) p (search read depth 40) tt in
-        ap (λ q. q *ℤ pos (steps e)) (rounded-whole e (pos 0) zero-times) ∙ sym zero-times
-
 -- A count for each level, cell and edge, and not one for all, so that a bound can name the edges that matter.
 pub record Counts (depth : ℕ) (es : List Edge) (k : ℕ → Cell dimensions → Edge → ℕ) : Type 0 where
   pub kept : (j : ℕ) → j < depth → (cell : Cell dimensions) → All (λ e. k j cell e ≡ 0 → Exact e (square depth j cell)) es
@@ -64,12 +49,12 @@ pub record Counts (depth : ℕ) (es : List Edge) (k : ℕ → Cell dimensions �
 pub counts-inside : (depth : ℕ) (es : List Edge) (k : ℕ → Cell dimensions → Edge → ℕ)
     → ((j : ℕ) (cell : Cell dimensions) (e : Edge) → k j cell e ≡ 0 → Inside e (square depth j cell) → ⊥) → Counts depth es k
 counts-inside depth es k out = record {
-  kept = λ j h cell. all-of (λ e n. outside-exact e (square depth j cell) (nonneg (span depth j)) (out j cell e n)) es;
+  kept = λ j h cell. all-of (λ e n. outside-exact e (square depth j cell) (nonneg (cellWidth depth j)) (out j cell e n)) es;
 }
 
 pub counts-octilinear : (depth : ℕ) {es : List Edge} → All Octilinear es → Counts depth es (λ j cell e. 0)
 counts-octilinear depth {es} o = record {
-  kept = λ j h cell. all-map (λ e s n. octilinear-exact s (square depth j cell) (span-halves depth j h) (nonneg (span depth (suc j)))) es o;
+  kept = λ j h cell. all-map (λ e s n. octilinear-exact s (square depth j cell) (cellWidth-halves depth j h) (nonneg (cellWidth depth (suc j)))) es o;
 }
 
 -- ---- one edge: it misses by at most n half units, for every n but 0, and for 0 where rounding keeps its details

@@ -3,7 +3,8 @@
 -- Main results
 --   contains-refl, contains-trans, contains-quarter      down the quadtree every cell lies in the one that it began with
 --   extent-at-most, extent-times                         bounds of an extent
---   difference-on                                        two coordinates between two sides are at most the width apart
+--   difference-on, product-on                            two coordinates between two sides are at most the width apart; the product of two
+--                                                        between 0 and w is between 0 and w²
 --   Sheet, sheet-room                                    an edge on a sheet has room in each even cell of it whose width times the sheet's is in range
 use mathlib.Core.Path.{_≡_}
 use mathlib.Core.List.{[], _∷_}
@@ -12,7 +13,7 @@ use native.Mathlib.Omega.{arith}
 use lib.IntN.{ℤ, pos, negsuc, _+ℤ_, _-ℤ_, _*ℤ_}
 use lib.Signed.{_≤ℤ_}
 use Rattle.integers.specs.Units.{widthTimesExtentLimit}
-use Rattle.integers.specs.Order.{≤ℤ-trans, ≤ℤ-mul}
+use Rattle.integers.specs.Order.{≤ℤ-trans, ≤ℤ-mul, ≤ℤ-mul-nonneg}
 use Rattle.integers.specs.Linear.{le, eq, _&_, none!, linear, lin≤}
 use Rattle.integers.specs.Within.{Within}
 use Rattle.edge.specs.declared.Edge.{Edge}
@@ -74,6 +75,15 @@ pub difference-on : {side w p q : ℤ} → OnRange side w p → OnRange side w q
 difference-on {side} {w} {p} {q} i j = record {
   low = lin≤ (side ∷ w ∷ p ∷ q ∷ []) (le (i .high) & le (j .low)) (search linear depth 40) tt;
   high = lin≤ (side ∷ w ∷ p ∷ q ∷ []) (le (i .low) & le (j .high)) (search linear depth 40) tt;
+}
+
+pub product-on : {w p q : ℤ} → OnRange (pos 0) w p → OnRange (pos 0) w q → OnRange (pos 0) (w *ℤ w) (p *ℤ q)
+product-on {w} {p} {q} i j = record {
+  low = ≤ℤ-mul-nonneg (i .low) (j .low);
+  -- w² − p q = (w − p) q + p (w − q) + (w − p) (w − q)
+  high =
+      lin≤ (w ∷ p ∷ q ∷ []) (le (≤ℤ-mul (i .high) (j .low)) & le (≤ℤ-mul (i .low) (j .high)) & le (≤ℤ-mul (i .high) (j .high)))
+      (search linear depth 40) tt;
 }
 
 -- A sheet: the square that edges lie on, as 01's tile is. It is at least one step wide, and its sides are in range.

@@ -7,7 +7,7 @@
 --   diagonal-down, diagonal-up                                          an edge at 45 degrees: dx = dy, or dx = −dy
 --   unitArea, unitH, unitV, unitD                            the four sums along it
 --   area-octilinear, h-octilinear, v-octilinear, d-octilinear        an octilinear edge's numerators are these times its steps
---   Exact, octilinear-exact                                    so rounding keeps its three details
+--   octilinear-exact                                           so rounding keeps its three details
 --   octilinear-inside, octilinear-inside-unit                    it lies strictly inside a cell exactly where its unit walk does
 use mathlib.Core.Path.{_≡_, refl, sym, _∙_, ap, subst, subst₂}
 use mathlib.Core.List.{[], _∷_}
@@ -18,16 +18,16 @@ use lib.IntN.{ℤ, pos, negℤ, _+ℤ_, _*ℤ_}
 use lib.Signed.{_≤ℤ_}
 use Rattle.integers.specs.Ring.{read, ring}
 use Rattle.integers.specs.Order.{nonneg}
-use Rattle.integers.specs.Rounding.{roundHalfAway}
 use Rattle.edge.specs.declared.Edge.{Edge}
 use Rattle.edge.specs.declared.Cell.{Cell}
 use Rattle.edge.specs.declared.Axis.{Axis}
 use Rattle.edge.specs.Octilinear.{Octilinear, level, upright, diagonal, unitX, unitY, unitSteps}
 use Rattle.edge.specs.Walk.{extent, sign, dx, dy, ax, ay, steps, xAxis, yAxis, past, near}
-use Rattle.edge.specs.Laws.StepCount.{extent-pos, rounded-whole}
+use Rattle.edge.specs.Laws.StepCount.{extent-pos, whole-kept}
 use Rattle.edge.specs.Lemmas.Ends.{extent-neg, extent-zero, sign-zero, direction, direction-within}
 use Rattle.edge.specs.Integrals.{along, areaOn, hOn, vOn, dOn, areaNum, hNum, vNum, dNum}
 use Rattle.edge.specs.Inside.{SomeStepInside, Inside}
+use Rattle.edge.specs.Rounded.{Exact}
 use Rattle.edge.specs.Laws.Refinement.{finer, over, Pace, moving, standing, Subdivided, Piecewise, clamp-piecewise, tent-piecewise, even-nonneg, along-finer}
 use Rattle.edge.specs.Laws.InsideRefinement.{inside-finer, inside-coarser}
 
@@ -128,19 +128,11 @@ module _ {e : Edge} (s : Octilinear e) (c : Cell) where
         ∙ ring (along (near (unitY e) (c .top) (c .width)) (past (unitX e) (c .left) (c .width)) (unitSteps e) ∷ pos (ax e) ∷ pos (ay e) ∷ []) (search read depth 40) tt)
 
 -- ---- rounding
-pub record Exact (e : Edge) (c : Cell) : Type 0 where
-  pub h : roundHalfAway (hNum e c) (steps e) *ℤ pos (steps e) ≡ hNum e c
-  pub v : roundHalfAway (vNum e c) (steps e) *ℤ pos (steps e) ≡ vNum e c
-  pub d : roundHalfAway (dNum e c) (steps e) *ℤ pos (steps e) ≡ dNum e c
-
-kept : (e : Edge) {z : ℤ} (q : ℤ) → z ≡ q *ℤ pos (steps e) → roundHalfAway z (steps e) *ℤ pos (steps e) ≡ z
-kept e q h = ap (λ z. z *ℤ pos (steps e)) (rounded-whole e q h) ∙ sym h
-
 pub octilinear-exact : {e : Edge} → Octilinear e → (c : Cell) {half : ℤ} → c .width ≡ half +ℤ half → pos 0 ≤ℤ half → Exact e c
 octilinear-exact {e} s c w k = record {
-  h = kept e (unitH e c) (h-octilinear s c w k);
-  v = kept e (unitV e c) (v-octilinear s c w k);
-  d = kept e (unitD e c) (d-octilinear s c w k);
+  h = whole-kept e (unitH e c) (h-octilinear s c w k);
+  v = whole-kept e (unitV e c) (v-octilinear s c w k);
+  d = whole-kept e (unitD e c) (d-octilinear s c w k);
 }
 
 -- ---- strictly inside

@@ -2,8 +2,8 @@
 --
 -- Main results
 --   extent-pos, steps-pos           an edge has at least one step
---   rounded-whole                   a value that is whole is kept by rounding
-use mathlib.Core.Path.{_≡_, _∙_, ap}
+--   rounded-whole, whole-kept       a value that is whole is kept by rounding
+use mathlib.Core.Path.{_≡_, sym, _∙_, ap}
 use Prim.Native.Nat.{zero, suc, _<_}
 use native.Mathlib.Nat.{mul-pos}
 use native.Mathlib.Omega.{arith}
@@ -24,3 +24,6 @@ steps-pos e = mul-pos (extent-pos (dx e)) (extent-pos (dy e))
 
 pub rounded-whole : (e : Edge) {z : ℤ} (q : ℤ) → z ≡ q *ℤ pos (steps e) → roundHalfAway z (steps e) ≡ q
 rounded-whole e q k = ap (λ z. roundHalfAway z (steps e)) k ∙ roundHalfAway-mul q (steps-pos e)
+
+pub whole-kept : (e : Edge) {z : ℤ} (q : ℤ) → z ≡ q *ℤ pos (steps e) → roundHalfAway z (steps e) *ℤ pos (steps e) ≡ z
+whole-kept e q h = ap (λ z. z *ℤ pos (steps e)) (rounded-whole e q h) ∙ sym h

@@ -8,6 +8,7 @@
 --   near-past-zero, past-near-zero,
 --   near-near-zero                             the same of any walk
 --   h-zero, v-zero, d-zero, details-zero       no part strictly inside: each is 0
+--   outside-exact                              and so rounding keeps it
 --   not-inside-within, h-zero-within,
 --   v-zero-within, d-zero-within,
 --   details-zero-within                        and in each cell inside this one
@@ -21,16 +22,15 @@ use lib.Signed.{_≤ℤ_}
 use Rattle.integers.specs.Ring.{read, ring, comb}
 use Rattle.integers.specs.Order.{≤ℤ-mul, ≤ℤ-mul-nonneg, ≤-of-pos, nonneg}
 use Rattle.integers.specs.Linear.{le, lt, _&_, linear, lin<}
-use Rattle.integers.specs.Rounding.{roundHalfAway}
 use Rattle.edge.specs.declared.Edge.{Edge}
 use Rattle.edge.specs.declared.Cell.{Cell}
 use Rattle.edge.specs.declared.Axis.{Axis}
 use Rattle.edge.specs.Walk.{ax, ay, steps, xAxis, yAxis, past, near}
 use Rattle.edge.specs.Integrals.{along, hOn, dOn, hNum, vNum, dNum}
 use Rattle.edge.specs.Inside.{Between, SomeStepInside, Inside, Contains}
-use Rattle.edge.specs.Rounded.{details}
+use Rattle.edge.specs.Rounded.{details, Exact}
 use Rattle.edge.specs.Lemmas.Records.{details-eq}
-use Rattle.edge.specs.Laws.StepCount.{rounded-whole}
+use Rattle.edge.specs.Laws.StepCount.{rounded-whole, whole-kept}
 use Rattle.edge.specs.Lemmas.Ends.{Steady, steady-within, x-steady, y-steady}
 use Rattle.edge.specs.Lemmas.Steps.{exchanged, Outside, Rests, between-or-outside, outside-rests}
 use Rattle.edge.specs.Lemmas.Runs.{piece, Idle, upto-zero, upto-all, idle-run}
@@ -127,12 +127,20 @@ module _ (e : Edge) (c : Cell) (hw : pos 0 ≤ℤ c .width) (none : Inside e c �
   unfolding dNum
   d-zero = near-near-zero (x-steady e) (y-steady e) hw none-inside
 
-  zero : {z : ℤ} → z ≡ pos 0 → roundHalfAway z (steps e) ≡ pos 0
-  zero {z} k = rounded-whole e (pos 0) (comb (z ∷ pos (steps e) ∷ []) k (search read depth 40) tt)
+  zero-times : {z : ℤ} → z ≡ pos 0 → z ≡ pos 0 *ℤ pos (steps e)
+  zero-times {z} k = comb (z ∷ pos (steps e) ∷ []) k (search read depth 40) tt
 
   pub details-zero : details e c ≡ record { h = pos 0; v = pos 0; d = pos 0 }
   unfolding details
-  details-zero = details-eq (zero h-zero) (zero v-zero) (zero d-zero)
+  details-zero =
+      details-eq (rounded-whole e (pos 0) (zero-times h-zero)) (rounded-whole e (pos 0) (zero-times v-zero)) (rounded-whole e (pos 0) (zero-times d-zero))
+
+  pub outside-exact : Exact e c
+  outside-exact = record {
+    h = whole-kept e (pos 0) (zero-times h-zero);
+    v = whole-kept e (pos 0) (zero-times v-zero);
+    d = whole-kept e (pos 0) (zero-times d-zero);
+  }
 
 -- ---- in each cell inside the one that the edge does not come into
 module _ (e : Edge) {c b : Cell} (k : Contains c b) (hw : pos 0 ≤ℤ b .width) (none : Inside e c → ⊥) where

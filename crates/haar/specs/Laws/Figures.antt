@@ -3,8 +3,7 @@
 -- Main results
 --   figure-root, figure-next     the definition's two clauses, which every other law goes by
 --   figure-child                 a child's figure is its parent's plus the scaled details with the child's signs
---   SameBelow n depth t u        two tables have the same root, and the same details at every level below the depth
---   figure-same                  they have the same figures, down to the depth
+--   figure-same                  tables that are the same below a depth have the same figures, down to it
 use mathlib.Core.Path.{_≡_, refl, sym, _∙_, ap, ap₂, subst}
 use Prim.Native.Nat.{ℕ, zero, suc, _^_, _<_, _≤_}
 use native.Mathlib.Omega.{arith}
@@ -13,7 +12,7 @@ use lib.IntN.{pos, _+ℤ_, _*ℤ_}
 use Rattle.integers.specs.RangeSum.{Σ-cong}
 use Rattle.haar.specs.Signs.{sign}
 use Rattle.haar.specs.Cells.{children, details, Cell, Below, parent, childNumber, child}
-use Rattle.haar.specs.Table.{Coefficients}
+use Rattle.haar.specs.Table.{Coefficients, SameBelow}
 use Rattle.haar.specs.Figures.{signedDetails, figure}
 use Rattle.haar.specs.Laws.Cells.{parent-child, childNumber-child, below-parent}
 
@@ -35,11 +34,6 @@ figure-child n t j cell c h =
     (parent-child n cell c) (childNumber-child n cell c h)
 
 -- ---- a figure depends on its own coefficients alone
-pub record SameBelow (n depth : ℕ) (t u : Coefficients n) : Type 0 where
-  pub same-root : t .root ≡ u .root
-  pub same-detail : (j : ℕ) → j < depth → (cell : Cell n) → Below n (2 ^ j) cell → (e : ℕ) → 1 ≤ e → e ≤ details n
-      → t .detail j cell e ≡ u .detail j cell e
-
 pub figure-same : {n depth : ℕ} {t u : Coefficients n} → SameBelow n depth t u → (level : ℕ) → level ≤ depth
     → (cell : Cell n) → Below n (2 ^ level) cell → figure n t level cell ≡ figure n u level cell
 unfolding signedDetails

@@ -16,12 +16,12 @@ use lib.Seq.{ext-getD}
 use lib.Pow.{pow-pos}
 use lib.IntN.{ℤ}
 use Rattle.haar.specs.Cells.{children, Cell, Below, rowMajor, cellAt}
-use Rattle.haar.specs.Table.{Coefficients}
+use Rattle.haar.specs.Table.{Coefficients, SameBelow}
 use Rattle.haar.specs.Figures.{figure}
 use Rattle.haar.specs.Pictures.{tabulate, picture}
 use Rattle.haar.specs.Plane.{dimensions, at, figureAt}
 use Rattle.haar.specs.Laws.Cells.{rowMajor-lt, cellAt-rowMajor, below-cellAt, rowMajor-cellAt, level-cells}
-use Rattle.haar.specs.Laws.Figures.{SameBelow, figure-same}
+use Rattle.haar.specs.Laws.Figures.{figure-same}
 
 module _ {A : Type 0} where
   -- ---- lists

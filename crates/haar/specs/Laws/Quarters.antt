@@ -20,7 +20,7 @@ use Rattle.haar.specs.Signs.{sign}
 use Rattle.haar.specs.Cells.{children, parent, childNumber}
 use Rattle.haar.specs.Table.{Coefficients}
 use Rattle.haar.specs.Figures.{signedDetails}
-use Rattle.haar.specs.Plane.{dimensions, hDetail, vDetail, dDetail, at, figureAt}
+use Rattle.haar.specs.Plane.{dimensions, hDetail, vDetail, dDetail, quarterDetails, at, figureAt}
 use Rattle.haar.specs.Laws.Signs.{sign-step, sign-plain}
 use Rattle.haar.specs.Laws.Figures.{figure-root, figure-next}
 
@@ -37,9 +37,7 @@ plane-sign e c h =
     ∙ ap (λ z. x *ℤ z) (sign-step (e / 2) (c / 2) ∙ ap (λ z. y *ℤ z) (ap (λ k. sign k (c / 2 / 2)) none ∙ sign-plain (c / 2 / 2)))
     ∙ ring (pos (e % 2) ∷ pos (c % 2) ∷ pos (e / 2 % 2) ∷ pos (c / 2 % 2) ∷ []) (search read depth 40) tt
 
-signs : (w : ℕ → ℤ) (c : ℕ)
-    → signedDetails dimensions w c
-    ≡ halfSign (c % 2) *ℤ w hDetail +ℤ halfSign (c / 2 % 2) *ℤ w vDetail +ℤ halfSign (c % 2) *ℤ halfSign (c / 2 % 2) *ℤ w dDetail
+signs : (w : ℕ → ℤ) (c : ℕ) → signedDetails dimensions w c ≡ quarterDetails w (c % 2) (c / 2 % 2)
 unfolding signedDetails Σ<
 signs w c =
     comb (sign hDetail c ∷ sign vDetail c ∷ sign dDetail c ∷ w hDetail ∷ w vDetail ∷ w dDetail ∷ pos (c % 2) ∷ pos (c / 2 % 2) ∷ [])
@@ -50,20 +48,18 @@ pub parent-at : (cx cy : ℕ) → parent dimensions (at cx cy) ≡ at (cx / 2) (
 unfolding parent
 parent-at cx cy = refl
 
-pub signedDetails-quarter : (w : ℕ → ℤ) (cx cy : ℕ)
-    → signedDetails dimensions w (childNumber dimensions (at cx cy))
-    ≡ halfSign (cx % 2) *ℤ w hDetail +ℤ halfSign (cy % 2) *ℤ w vDetail +ℤ halfSign (cx % 2) *ℤ halfSign (cy % 2) *ℤ w dDetail
+pub signedDetails-quarter : (w : ℕ → ℤ) (cx cy : ℕ) → signedDetails dimensions w (childNumber dimensions (at cx cy)) ≡ quarterDetails w (cx % 2) (cy % 2)
 unfolding childNumber
 signedDetails-quarter w cx cy =
     let c = childNumber dimensions (at cx cy) in
     let x : c % 2 ≡ cx % 2 = omega arith in
     let half : c / 2 ≡ cy % 2 = omega arith in
     let y : c / 2 % 2 ≡ cy % 2 = ap (λ k. k % 2) half ∙ mod-mod cy 2 in
-    signs w c ∙ ap₂ (λ a b. halfSign a *ℤ w hDetail +ℤ halfSign b *ℤ w vDetail +ℤ halfSign a *ℤ halfSign b *ℤ w dDetail) x y
+    signs w c ∙ ap₂ (quarterDetails w) x y
 
 -- a quarter's figure from its cell's figure f, the scale 4^j and the cell's details w: in half a of x and half b of y
 abbrev pub quarterFigure : ℤ → ℕ → (ℕ → ℤ) → ℕ → ℕ → ℤ
-quarterFigure f scale w a b = f +ℤ pos scale *ℤ (halfSign a *ℤ w hDetail +ℤ halfSign b *ℤ w vDetail +ℤ halfSign a *ℤ halfSign b *ℤ w dDetail)
+quarterFigure f scale w a b = f +ℤ pos scale *ℤ quarterDetails w a b
 
 pub figure-quarter : (t : Coefficients dimensions) (j cx cy : ℕ)
     → figureAt t (suc j) cx cy ≡ quarterFigure (figureAt t j (cx / 2) (cy / 2)) (4 ^ j) (t .detail j (at (cx / 2) (cy / 2))) (cx % 2) (cy % 2)

@@ -10,9 +10,8 @@ use lib.ListN.{length, getD}
 use lib.Seq.{ext-getD}
 use lib.IntN.{ℤ, pos}
 use Rattle.haar.specs.Cells.{children}
-use Rattle.haar.specs.Table.{stored}
+use Rattle.haar.specs.Table.{stored, SameBelow}
 use Rattle.haar.specs.Laws.Layout.{index-onto}
-use Rattle.haar.specs.Laws.Figures.{SameBelow}
 
 pub stored-unique : (n depth : ℕ) (k l : List ℤ) → length k ≡ children n ^ depth → length l ≡ children n ^ depth
     → SameBelow n depth (stored n k) (stored n l) → k ≡ l
