@@ -3,7 +3,7 @@
 -- Definitions
 --   cellWidth depth level        how wide a cell of a level is
 --   square depth level cell      the square of a cell
---   tile depth                   the whole tile, which is the cell of level 0
+--   tile depth                   the whole tile, from 0 to its width: the cell of level 0
 --   OnTile depth p               a point on the tile
 --   EdgeOnTile depth e           an edge between two such points
 --   ClosedOnTile depth es        closed edges on the tile
@@ -20,7 +20,7 @@ use Rattle.edge.specs.declared.Edge.{Edge}
 use Rattle.edge.specs.declared.Cell.{Cell as Square}
 use Rattle.haar.specs.Cells.{Cell}
 use Rattle.haar.specs.Greys.{full}
-use Rattle.haar.specs.Plane.{dimensions, at}
+use Rattle.haar.specs.Plane.{dimensions}
 use Rattle.accuracy.specs.Outline.{Point, ClosedEdges}
 
 -- "A step is 1/256 pixel", and each level halves the width: a cell of level `depth` is a pixel, and that of level 0 is the tile
@@ -42,7 +42,7 @@ square depth level (cx, (cy, rest)) = record {
 }
 
 abbrev pub tile : ℕ → Square
-tile depth = square depth 0 (at 0 0)
+tile depth = record { left = pos 0; top = pos 0; width = pos (cellWidth depth 0) }
 
 -- "A point has whole x and y from 0 to 256 × side, both ends allowed."
 pub record OnTile (depth : ℕ) (p : Point) : Type 0 where

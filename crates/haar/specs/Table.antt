@@ -4,8 +4,8 @@
 --   Coefficients n               a root, and detail e of each cell of each level
 --   index n j cell e             where detail e of a cell of level j stands in the list
 --   stored n entries             the coefficients that a list of entries holds
---   SameBelow n depth t u        two tables have the same root, and the same details at every level below the depth
 --   Bounded n depth r b t        r bounds the root of t, either way, and b each cell's details at every level below the depth
+--   SameBelow n depth t u        two tables have the same root, and the same details at every level below the depth
 use mathlib.Core.Path.{_≡_}
 use mathlib.Core.List.{List}
 use Prim.Native.Nat.{ℕ, _+_, _*_, _-_, _^_, _<_, _≤_}

@@ -19,12 +19,12 @@ use Rattle.edge.specs.declared.Edge.{Edge}
 use Rattle.edge.specs.Rounded.{details, rootTerm}
 use Rattle.edge.specs.Laws.Cells.{difference-on, product-on}
 use Rattle.edge.specs.Laws.Bounds.{rounded-h-bound, rounded-v-bound, rounded-d-bound}
-use Rattle.edge.specs.Laws.WholeTile.{OnRange}
+use Rattle.edge.specs.Laws.WholeTile.{OnCell}
 use Rattle.haar.specs.Table.{Bounded}
 use Rattle.haar.specs.Plane.{dimensions}
-use Rattle.accuracy.specs.Tile.{cellWidth, square, EdgeOnTile}
+use Rattle.accuracy.specs.Tile.{cellWidth, square, tile, EdgeOnTile}
 use Rattle.accuracy.specs.OutlineTable.{edgeTable, outlineTable}
-use Rattle.accuracy.specs.Laws.OnTile.{from-zero}
+use Rattle.accuracy.specs.Laws.OnTile.{on-cell}
 use Rattle.accuracy.specs.Laws.Numbered.{by-number}
 
 -- ---- widths: no cell is wider than the tile, and no tile than the greatest
@@ -36,13 +36,13 @@ width-le h = mul-le-mul-left stepsPerPixel (pow-le-pow-right {n = 2} (omega arit
 edge-bounded : {depth : ℕ} {e : Edge} → EdgeOnTile depth e
     → Bounded dimensions depth (cellWidth depth 0 * cellWidth depth 0) (λ j cell. cellWidth depth 0 * cellWidth depth 0) (edgeTable depth e)
 unfolding rootTerm
-edge-bounded {depth} {e} on = record {
-  root-within = difference-on (product-on x1 y0) (product-on x0 y1);
+edge-bounded {depth} {e} o = record {
+  root-within = difference-on (product-on (on .x1) (on .y0)) (product-on (on .x0) (on .y1));
   detail-within = λ j i cell b k m n.
       let c = square depth j cell in
       let w≥0 = nonneg (cellWidth depth j) in
-      let x = run-le j (difference-on x0 x1) in
-      let y = run-le j (difference-on y0 y1) in
+      let x = run-le j (difference-on (on .x0) (on .x1)) in
+      let y = run-le j (difference-on (on .y0) (on .y1)) in
       by-number (Within (pos (s * s))) (details e c)
       (within-le y (rounded-h-bound e c w≥0)) (within-le x (rounded-v-bound e c w≥0)) (within-le y (rounded-d-bound e c w≥0)) k m n;
 }
@@ -50,17 +50,8 @@ edge-bounded {depth} {e} on = record {
     s : ℕ
     s = cellWidth depth 0
 
-    x0 : OnRange (pos 0) (pos s) (e .x0)
-    x0 = from-zero (on .start .x-low) (on .start .x-high)
-
-    y0 : OnRange (pos 0) (pos s) (e .y0)
-    y0 = from-zero (on .start .y-low) (on .start .y-high)
-
-    x1 : OnRange (pos 0) (pos s) (e .x1)
-    x1 = from-zero (on .end .x-low) (on .end .x-high)
-
-    y1 : OnRange (pos 0) (pos s) (e .y1)
-    y1 = from-zero (on .end .y-low) (on .end .y-high)
+    on : OnCell (tile depth) e
+    on = on-cell depth e o
 
     run-le : {run : ℤ} (j : ℕ) → Within (pos s) run → (abs run *ℤ pos (cellWidth depth j)) ≤ℤ pos (s * s)
     run-le {run} j h =

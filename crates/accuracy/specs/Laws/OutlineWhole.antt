@@ -3,7 +3,7 @@
 -- Main results
 --   edges-whole                  of any square that the edges lie in
 --   outline-whole                of the tile
-use mathlib.Core.Path.{_≡_, _∙_}
+use mathlib.Core.Path.{_≡_, _∙_, ap}
 use mathlib.Core.List.{List, [], _∷_}
 use Prim.Native.Nat.{ℕ}
 use lib.IntN.{ℤ, pos, _+ℤ_, _*ℤ_}
@@ -21,6 +21,7 @@ use Rattle.accuracy.specs.Outline.{signedArea, gain, ClosedEdges}
 use Rattle.accuracy.specs.Tile.{tile, ClosedOnTile}
 use Rattle.accuracy.specs.ExactArea.{denominator, exactAreaNum}
 use Rattle.accuracy.specs.Laws.OnTile.{on-cell}
+use Rattle.accuracy.specs.Laws.Squares.{square-tile}
 
 pub edges-whole : {es : List Edge} → ClosedEdges es → (c : Square) → All (OnCell c) es → numer steps (λ e. areaNum e c) es ≡ signedArea es *ℤ pos (denominator es)
 edges-whole {es} closed c on =
@@ -36,4 +37,5 @@ edges-whole {es} closed c on =
     each e h = whole-tile h ∙ ring (pos (steps e) ∷ term e ∷ []) (search read depth 40) tt
 
 pub outline-whole : {depth : ℕ} {es : List Edge} → ClosedOnTile depth es → exactAreaNum depth es 0 (at 0 0) ≡ signedArea es *ℤ pos (denominator es)
-outline-whole {depth} {es} o = edges-whole (o .closed) (tile depth) (all-map (on-cell depth) es (o .on-tile))
+outline-whole {depth} {es} o =
+    ap (λ c. numer steps (λ e. areaNum e c) es) (square-tile depth) ∙ edges-whole (o .closed) (tile depth) (all-map (on-cell depth) es (o .on-tile))

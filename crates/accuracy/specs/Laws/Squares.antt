@@ -3,17 +3,18 @@
 -- Main results
 --   cellWidth-halves                  a cell's width is twice that of the next level
 --   square-quarter               so a cell's square is a quarter of its parent's
+--   square-tile                  the cell of level 0 is the tile
 use mathlib.Core.Path.{_≡_, _∙_, ap, ap₂}
 use mathlib.Core.List.{[], _∷_}
 use Prim.Native.Nat.{ℕ, suc, _*_, _-_, _/_, _%_, _^_, _<_}
 use native.Mathlib.Omega.{arith}
-use native.Mathlib.Nat.{pow-succ', div-add-mod}
+use native.Mathlib.Nat.{pow-succ', div-add-mod, zero-mul}
 use lib.IntN.{pos, negsuc, _+ℤ_, _*ℤ_}
 use Rattle.integers.specs.Units.{stepsPerPixel}
 use Rattle.integers.specs.Ring.{read, comb, _⊕_, _⊗_}
 use Rattle.edge.specs.Laws.Quarter.{quarter}
 use Rattle.haar.specs.Plane.{at}
-use Rattle.accuracy.specs.Tile.{cellWidth, square}
+use Rattle.accuracy.specs.Tile.{cellWidth, square, tile}
 
 pub cellWidth-halves : (depth j : ℕ) → j < depth → pos (cellWidth depth j) ≡ pos (cellWidth depth (suc j)) +ℤ pos (cellWidth depth (suc j))
 cellWidth-halves depth j h =
@@ -31,3 +32,6 @@ pub square-quarter : (depth j cx cy : ℕ) → j < depth
     → square depth (suc j) (at cx cy) ≡ quarter (square depth j (at (cx / 2) (cy / 2))) (pos (cellWidth depth (suc j))) (cx % 2) (cy % 2)
 square-quarter depth j cx cy h =
     ap₂ (λ l t. record { left = l; top = t; width = pos (cellWidth depth (suc j)) }) (side-quarter depth j cx h) (side-quarter depth j cy h)
+
+pub square-tile : (depth : ℕ) → square depth 0 (at 0 0) ≡ tile depth
+square-tile depth = ap (λ n. record { left = pos n; top = pos n; width = pos (cellWidth depth 0) }) (zero-mul (cellWidth depth 0))
