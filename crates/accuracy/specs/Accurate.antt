@@ -5,12 +5,12 @@
 --
 -- Definitions
 --   miss depth es level cx cy         how far the figure of a cell lies from 4^level times its exact area, `denominator es` times over
---   missLimit level edges             twice 01's limit of that distance, in units: (4^level − 1) × edges
+--   twiceMissLimit level edges             twice 01's limit of that distance, in units: (4^level − 1) × edges
 --   Accurate depth es                 what is promised of the edges es of an outline on a tile of side 2^depth
 --   AccurateOutline depth contours    and of the outline
 use mathlib.Core.Path.{_≡_}
 use mathlib.Core.List.{List, Perm, map, reverse}
-use Prim.Native.Nat.{ℕ, suc, _*_, _-_, _/_, _%_, _^_, _<_, _≤_}
+use Prim.Native.Nat.{ℕ, suc, _+_, _*_, _-_, _/_, _%_, _^_, _<_, _≤_}
 use lib.ListN.{length}
 use lib.IntN.{ℤ, pos, _+ℤ_, _-ℤ_, _*ℤ_}
 use lib.Signed.{_≤ℤ_}
@@ -26,28 +26,30 @@ use Rattle.haar.specs.Plane.{dimensions, quarterDetails, at, figureAt}
 use Rattle.accuracy.specs.Outline.{Point, outlineEdges, signedArea}
 use Rattle.accuracy.specs.Tile.{CellOf}
 use Rattle.accuracy.specs.ExactArea.{denominator, exactAreaNum}
-use Rattle.accuracy.specs.ExactDetails.{exactDetailNum}
+use Rattle.accuracy.specs.ExactDetails.{exactDetailNum, QuarterDifferences}
 use Rattle.accuracy.specs.OutlineTable.{outlineTable, negated}
 
 abbrev pub miss : ℕ → List Edge → ℕ → ℕ → ℕ → ℤ
 miss depth es level cx cy = figureAt (outlineTable depth es) level cx cy *ℤ pos (denominator es) -ℤ pos (4 ^ level) *ℤ exactAreaNum depth es level (at cx cy)
 
-abbrev pub missLimit : ℕ → ℕ → ℕ
-missLimit level edges = (4 ^ level - 1) * edges
+abbrev pub twiceMissLimit : ℕ → ℕ → ℕ
+twiceMissLimit level edges = (4 ^ level - 1) * edges
 
 pub record Accurate (depth : ℕ) (es : List Edge) : Type 0 where
   -- else what follows would say nothing
   pub denominator-positive : 0 < denominator es
-  -- ---- the wavelet: the signed area is the exact area of the tile, and 4 × area(quarter) = area ± h ± v ± d. The four quarters' equations together say
-  -- that their areas add up to the cell's, and that h, v and d are 01's differences of areas.
+  -- ---- the wavelet: the signed area is the exact area of the tile; 4 × area(quarter) = area ± h ± v ± d, so that the four quarters' areas add up to
+  -- the cell's; and h, v and d are 01's differences of the quarters' areas
   pub whole : exactAreaNum depth es 0 (at 0 0) ≡ signedArea es *ℤ pos (denominator es)
   pub quarter : (j cx cy : ℕ) → j < depth
       → pos 4 *ℤ exactAreaNum depth es (suc j) (at cx cy)
       ≡ exactAreaNum depth es j (at (cx / 2) (cy / 2)) +ℤ quarterDetails (exactDetailNum depth es j (at (cx / 2) (cy / 2))) (cx % 2) (cy % 2)
+  pub differences : (j cx cy : ℕ) → j < depth
+      → QuarterDifferences (λ a b. exactAreaNum depth es (suc j) (at (2 * cx + a) (2 * cy + b))) (exactDetailNum depth es j (at cx cy))
   -- ---- what is drawn
   -- "A level L figure differs from 4^L times the exact area by at most (4^L − 1) × edges / 2"
   pub close : (level cx cy : ℕ) → CellOf depth level cx cy
-      → (pos 2 *ℤ abs (miss depth es level cx cy)) ≤ℤ pos (missLimit level (length es) * denominator es)
+      → (pos 2 *ℤ abs (miss depth es level cx cy)) ≤ℤ pos (twiceMissLimit level (length es) * denominator es)
   -- "It is equal where every edge is level, upright or at 45 degrees."
   pub equal : All Octilinear es → (level cx cy : ℕ) → CellOf depth level cx cy → miss depth es level cx cy ≡ pos 0
   -- "Each grey is at most one from the exact area's grey", which "comes by the rule above from 4^L times the cell's exact area in place of the figure",

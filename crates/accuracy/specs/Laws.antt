@@ -2,11 +2,14 @@
 
 -- the edges of an outline: around closed contours, what depends on the end points alone cancels
 pub mod Contours
+pub mod Coordinates
 pub mod OnTile
 -- a cell of the next level is a quarter
 pub mod Squares
--- the exact areas: a quarter's from its cell's, and the whole tile's
+-- the exact areas: their denominator is above 0; a quarter's from its cell's, and so the details from the quarters'; and the whole tile's
+pub mod Denominator
 pub mod OutlineQuarter
+pub mod Differences
 pub mod OutlineWhole
 -- so the figures, without rounding, are 4^L times these areas
 pub mod ExactFigures
@@ -22,3 +25,5 @@ pub mod CloseGreys
 pub mod EntryBounds
 pub mod Order
 pub mod Reversal
+-- and the table by the closed form of the edges' details, which computes
+pub mod ClosedTable

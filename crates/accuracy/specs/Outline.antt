@@ -2,6 +2,9 @@
 --
 -- Definitions
 --   Point                        a point, in 01's steps of 1/256 pixel
+--   pointsOf, contoursOf         the points of a list of coordinates, x and y in turn; and the contours, by their counts
+--   pointAt coordinates k        point k of a list of coordinates
+--   edgeCount counts             the counts' sum
 --   edgeBetween p q              the edge from p to q
 --   through p qs last            the edges from p through the points qs to the last
 --   contourEdges, outlineEdges   the edges of one contour, and of all contours of an outline
@@ -9,15 +12,35 @@
 --   gain f e, ClosedEdges es     what a function of a point gains along an edge; in closed edges the gains add up to 0
 use mathlib.Core.Path.{_≡_}
 use mathlib.Core.List.{List, [], _∷_, _++_}
+use Prim.Native.Nat.{ℕ, _+_, _*_}
+use lib.ListN.{getD, take, drop}
 use lib.IntN.{ℤ, pos, _-ℤ_, _*ℤ_}
 use Rattle.integers.specs.Ring.{read, ring}
-use Rattle.integers.specs.ListSum.{total}
+use Rattle.integers.specs.ListSum.{total, tally}
 use Rattle.edge.specs.declared.Edge.{Edge}
 use Rattle.edge.specs.Rounded.{rootTerm}
 
 pub record Point : Type 0 where
   pub x : ℤ
   pub y : ℤ
+
+-- "An outline is a list of x, y pairs and a list of counts."
+unfoldable pub pointsOf : List ℤ → List Point
+pointsOf [] = []
+pointsOf (x ∷ []) = []
+pointsOf (x ∷ y ∷ rest) = record { x = x; y = y } ∷ pointsOf rest
+
+abbrev pub pointAt : List ℤ → ℕ → Point
+pointAt coordinates k = record { x = getD coordinates (2 * k) (pos 0); y = getD coordinates (2 * k + 1) (pos 0) }
+
+-- "A contour is the run of points that begins where the one before ended." Each point has two coordinates.
+unfoldable pub contoursOf : List ℕ → List ℤ → List (List Point)
+contoursOf [] coordinates = []
+contoursOf (n ∷ counts) coordinates = pointsOf (take (2 * n) coordinates) ∷ contoursOf counts (drop (2 * n) coordinates)
+
+-- "the edge count, the sum of the counts"
+abbrev pub edgeCount : List ℕ → ℕ
+edgeCount counts = tally (λ n. n) counts
 
 abbrev pub edgeBetween : Point → Point → Edge
 edgeBetween p q = record { x0 = p .x; y0 = p .y; x1 = q .x; y1 = q .y }

@@ -9,11 +9,8 @@ use native.Mathlib.Omega.{arith}
 use native.Mathlib.Nat.{pow-le-pow-right}
 use lib.IntN.{pos, _*ℤ_}
 use Rattle.integers.specs.Within.{scaled-abs-of-within}
-use Rattle.integers.specs.ListSum.{All, all-of}
-use Rattle.integers.specs.Fraction.{common-pos}
+use Rattle.integers.specs.ListSum.{All}
 use Rattle.edge.specs.declared.Edge.{Edge}
-use Rattle.edge.specs.Walk.{steps}
-use Rattle.edge.specs.Laws.StepCount.{steps-pos}
 use Rattle.haar.specs.Plane.{dimensions, at, figureAt}
 use Rattle.haar.specs.Laws.Totals.{picture-total}
 use Rattle.accuracy.specs.Outline.{Point}
@@ -22,7 +19,9 @@ use Rattle.accuracy.specs.ExactArea.{denominator, exactAreaNum}
 use Rattle.accuracy.specs.OutlineTable.{outlineTable}
 use Rattle.accuracy.specs.Accurate.{miss, Accurate, AccurateOutline}
 use Rattle.accuracy.specs.Laws.Contours.{outlineEdges-length, outline-on-tile}
+use Rattle.accuracy.specs.Laws.Denominator.{denominator-pos}
 use Rattle.accuracy.specs.Laws.OutlineQuarter.{outline-quarter}
+use Rattle.accuracy.specs.Laws.Differences.{outline-differences}
 use Rattle.accuracy.specs.Laws.OutlineWhole.{outline-whole}
 use Rattle.accuracy.specs.Laws.Closeness.{miss-within, miss-zero}
 use Rattle.accuracy.specs.Laws.CloseGreys.{close-greys}
@@ -32,17 +31,17 @@ use Rattle.accuracy.specs.Laws.Reversal.{outline-reversed}
 
 pub edges-accurate : {depth : ℕ} {es : List Edge} → ClosedOnTile depth es → Accurate depth es
 edges-accurate {depth} {es} o =
-    let fraction = common-pos steps es (all-of steps-pos es) in
     record {
-      denominator-positive = fraction;
+      denominator-positive = denominator-pos es;
       whole = outline-whole o;
       quarter = outline-quarter (o .closed) depth;
+      differences = outline-differences (o .closed) depth;
       close = λ level cx cy c. scaled-abs-of-within 2 (miss depth es level cx cy) (miss-within o level cx cy c);
       equal = miss-zero o;
       greys = λ few level cx cy c.
           let cells : 4 ^ level - 1 ≤ 4 ^ depth = omega (arith, pow-le-pow-right {n = 4} (omega arith) (c .level-to-depth)) in
           close-greys depth (denominator es) (figureAt (outlineTable depth es) level cx cy) (pos (4 ^ level) *ℤ exactAreaNum depth es level (at cx cy))
-          cells few fraction (miss-within o level cx cy c);
+          cells few (denominator-pos es) (miss-within o level cx cy c);
       totals = picture-total dimensions (outlineTable depth es);
       entries = built-entries es (o .on-tile);
       any-order = λ fs p. outlineTable-perm depth p;

@@ -22,6 +22,7 @@ use Rattle.edge.specs.declared.Edge.{Edge}
 use Rattle.edge.specs.declared.Cell.{Cell}
 use Rattle.edge.specs.declared.Axis.{Axis}
 use Rattle.edge.specs.Walk.{dx, dy, ax, ay, steps, xAxis, yAxis, beyond, past, near}
+use Rattle.edge.specs.Nested.{OnRange, OnCell}
 use Rattle.edge.specs.Lemmas.Records.{details-eq}
 use Rattle.edge.specs.Laws.StepCount.{rounded-whole}
 use Rattle.edge.specs.Lemmas.Ends.{beyond-start, x-end, y-end, past-scale, near-scale}
@@ -29,7 +30,7 @@ use Rattle.edge.specs.Integrals.{along, hNum, vNum, dNum}
 use Rattle.edge.specs.Rounded.{details}
 use Rattle.edge.specs.Lemmas.Runs.{piece, LinearOn, upto, upto-zero, upto-all, linear-run}
 use Rattle.edge.specs.Lemmas.OneDirection.{OneHalf, before, behind, past-linear, near-linear}
-use Rattle.edge.specs.Laws.WholeTile.{OnRange, OnCell, stays-between}
+use Rattle.edge.specs.Laws.WholeTile.{stays-between}
 use Rattle.edge.specs.Code.{SameHalf, first, second, SameQuarter}
 
 -- from p, between two sides w apart, to the nearer of them

@@ -9,10 +9,9 @@
 --   Between                 the middle of step t lies strictly between two sides
 --   SomeStepInside          some step of a walk does so in both directions
 --   Inside                  some step of the edge does
---   Contains                the second cell lies in the first
 use Prim.Native.Nat.{ℕ, _<_}
 use lib.IntN.{ℤ, pos, _+ℤ_, _*ℤ_}
-use lib.Signed.{_≤ℤ_, _<ℤ_}
+use lib.Signed.{_<ℤ_}
 use Rattle.edge.specs.declared.Edge.{Edge}
 use Rattle.edge.specs.declared.Cell.{Cell}
 use Rattle.edge.specs.declared.Axis.{Axis}
@@ -35,9 +34,3 @@ pub record SomeStepInside (a b : Axis) (c : Cell) (n : ℕ) : Type 0 where
 
 abbrev pub Inside : Edge → Cell → Type 0
 Inside e c = SomeStepInside (xAxis e) (yAxis e) c (steps e)
-
-pub record Contains (c b : Cell) : Type 0 where
-  pub left : c .left ≤ℤ b .left
-  pub right : (b .left +ℤ b .width) ≤ℤ (c .left +ℤ c .width)
-  pub top : c .top ≤ℤ b .top
-  pub bottom : (b .top +ℤ b .width) ≤ℤ (c .top +ℤ c .width)

@@ -19,8 +19,9 @@ pub mod Zero
 pub mod OctilinearEdges
 -- the other way along an edge: opposite values
 pub mod Reversal
--- the sum over at most three pieces
+-- the sum over at most three pieces; and the rounded details by it, which compute
 pub mod ClosedForm
+pub mod ClosedDetails
 -- the walk that `walk_of` answers comes inside where its edge does
 pub mod WalkInside
 -- cells in cells, and the room that an edge has in each

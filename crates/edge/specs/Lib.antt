@@ -14,6 +14,8 @@ pub mod Octilinear
 -- ---- what the contracts cite besides
 -- the ranges that keep the arithmetic in 64 bits
 pub mod Room
+-- a cell's quarters, cells in cells, edges in cells
+pub mod Nested
 -- the walk that `walk_of` answers, and yes or no
 pub mod WalkOf
 -- the steps inside a cell, and where its middles cut them

@@ -429,7 +429,8 @@ fn quarter_details(e: Edge, c: Cell, half: i64) -> Details
 
 // ---- the rounded details
 
-fn half_of(width: i64) -> i64
+// Half of an even width.
+pub fn half_of(width: i64) -> i64
     requires { ⌜ Even width ⌝ }
     ensures { λ h. ⌜ (width ≡ h +ℤ h) × (pos 0 ≤ℤ h) ⌝ }
 {

@@ -17,6 +17,8 @@ pub mod Quarters
 pub mod FigureLimit
 -- pictures
 pub mod Pictures
+-- the list of a table's entries has its coefficients, and no other list has
+pub mod Entries
 -- totals of a level
 pub mod CellSums
 pub mod Totals

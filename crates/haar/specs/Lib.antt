@@ -9,6 +9,8 @@ pub mod Table
 pub mod Figures
 pub mod Pictures
 pub mod Greys
+-- the list of a table's entries, made from its coefficients
+pub mod Entries
 -- two dimensions
 pub mod Plane
 -- what drawing asks of its caller, and what the contracts of its inner functions cite

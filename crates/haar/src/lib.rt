@@ -64,7 +64,7 @@ fn scale_of(level: usize) -> i64
 }
 
 // Where the details of cell (x, y) of a level begin.
-fn first_detail(level: usize, x: usize, y: usize) -> usize
+pub fn first_detail(level: usize, x: usize, y: usize) -> usize
     requires { ⌜ (level < greatestDepth) × (x < 2 ^ level) × (y < 2 ^ level) ⌝ }
     ensures { λ r. ⌜ r ≡ index dimensions level (at x y) hDetail ⌝ }
 {

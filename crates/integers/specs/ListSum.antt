@@ -1,7 +1,8 @@
 -- Sums over a list, and a property of every element.
 --
 -- Main results
---   all-of, all-map, all-append       of `All P l`, every element of l has the property P
+--   all-of, all-map, all-append, all-take, all-drop, all-entry                   of `All P l`, that every element of l has the property P
+--   all-getD, getD-all, getD-each     past its end an entry of a list counts as the default: what holds of that too holds of every entry
 --   total-cong, total-add, total-scale, total-neg, total-append, total-const     as of any finite sum
 --   total-within, total-bounded       terms bounded each by its own bound are bounded by the bounds' sum; each by b, by as many times b
 --   total-perm                        the order of the list does not matter
@@ -10,9 +11,9 @@
 use mathlib.Core.Path.{_≡_, refl, _∙_, ap, ap₂}
 use mathlib.Core.List.{List, [], _∷_, _++_, map, Perm, List·Permᴰ, List·Permᴰ·nil, List·Permᴰ·cons, List·Permᴰ·swap, List·Permᴰ·trans}
 use mathlib.Core.Logic.{∥∥₁-elim}
-use Prim.Native.Nat.{ℕ, _+_, _*_}
+use Prim.Native.Nat.{ℕ, zero, suc, _+_, _*_, _<_}
 use native.Mathlib.Omega.{arith}
-use lib.ListN.{length}
+use lib.ListN.{length, getD, take, drop}
 use lib.IntN.{ℤ, pos, negℤ, _+ℤ_, _*ℤ_, ℤ-set}
 use lib.Signed.{≤ℤ-refl}
 use Rattle.integers.specs.Ring.{read, ring, comb, _⊕_}
@@ -34,6 +35,35 @@ all-map f (a ∷ l) p = (f a (p .0), all-map f l (p .1))
 pub all-append : {A : Type 0} (P : A → Type 0) (k l : List A) → All P k → All P l → All P (k ++ l)
 all-append P [] l p q = q
 all-append P (a ∷ k) l p q = (p .0, all-append P k l (p .1) q)
+
+pub all-take : {A : Type 0} (P : A → Type 0) (n : ℕ) (l : List A) → All P l → All P (take n l)
+all-take P zero l p = tt
+all-take P (suc n) [] p = tt
+all-take P (suc n) (a ∷ l) p = (p .0, all-take P n l (p .1))
+
+pub all-drop : {A : Type 0} (P : A → Type 0) (n : ℕ) (l : List A) → All P l → All P (drop n l)
+all-drop P zero l p = p
+all-drop P (suc n) [] p = tt
+all-drop P (suc n) (a ∷ l) p = all-drop P n l (p .1)
+
+pub all-entry : {A : Type 0} (P : A → Type 0) (o : A) (l : List A) → All P l → (i : ℕ) → i < length l → P (getD l i o)
+all-entry P o [] p i h = absurd (omega arith)
+all-entry P o (a ∷ l) p zero h = p .0
+all-entry P o (a ∷ l) p (suc i) h = all-entry P o l (p .1) i (omega arith)
+
+-- past the end of a list an entry counts as the default, d
+pub all-getD : {A : Type 0} (P : A → Type 0) (d : A) → P d → (l : List A) → All P l → (i : ℕ) → P (getD l i d)
+all-getD P d p [] h i = p
+all-getD P d p (a ∷ l) h zero = h .0
+all-getD P d p (a ∷ l) h (suc i) = all-getD P d p l (h .1) i
+
+pub getD-all : {A : Type 0} (P : A → Type 0) (d : A) (l : List A) → ((i : ℕ) → i < length l → P (getD l i d)) → All P l
+getD-all P d [] h = tt
+getD-all P d (a ∷ l) h = (h zero (omega arith), getD-all P d l (λ i k. h (suc i) (omega arith)))
+
+-- what holds of every entry that a list has, and of the default, holds of all
+pub getD-each : {A : Type 0} (P : A → Type 0) (d : A) → P d → (l : List A) → ((i : ℕ) → i < length l → P (getD l i d)) → (i : ℕ) → P (getD l i d)
+getD-each P d p l h = all-getD P d p l (getD-all P d l h)
 
 -- ---- the sum of f over a list
 unfoldable pub total : {A : Type 0} → (A → ℤ) → List A → ℤ

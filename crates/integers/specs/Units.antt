@@ -5,7 +5,7 @@
 --   stepsPerPixel; unitsPerHalfSquareStep, unitsPerPixel            length and area
 --   greatestDepth, greatestSide, greatestCoordinate                 the tile
 --   fewestPoints, mostPoints, mostEdges                             the outline
---   widthTimesExtentLimit, numeratorLimit                           an edge's arithmetic
+--   widthTimesExtentLimit, detailLimit, numeratorLimit              an edge's arithmetic
 --   entryLimit, builtEntryLimit, figureLimit, fullGrey, textLimit   the table, what is drawn of it, the program
 use mathlib.Core.Path.{_≡_, refl}
 use Prim.Native.Nat.{ℕ, _*_, _^_}
@@ -61,6 +61,10 @@ widthTimesExtentLimit = greatestCoordinate * greatestCoordinate
 width-times-extent-is : widthTimesExtentLimit ≡ 2 ^ 28
 width-times-extent-is = refl
 
+-- what an edge adds to an entry at most, in units: its extent times a cell's width
+abbrev pub detailLimit : ℕ
+detailLimit = unitsPerHalfSquareStep * widthTimesExtentLimit
+
 -- "no numerator passes 2^57": twice the width's square times both extents
 abbrev pub numeratorLimit : ℕ
 numeratorLimit = unitsPerHalfSquareStep * (2 * (widthTimesExtentLimit * widthTimesExtentLimit))
@@ -72,9 +76,9 @@ numerator-is = refl
 abbrev pub entryLimit : ℕ
 entryLimit = 2 ^ 40
 
--- An edge adds at most its extent times a cell's width to an entry, so this is what the most edges add.
+-- what the most edges add to an entry
 abbrev pub builtEntryLimit : ℕ
-builtEntryLimit = mostEdges * widthTimesExtentLimit
+builtEntryLimit = mostEdges * detailLimit
 
 built-entry-is : builtEntryLimit ≡ 2 ^ 38
 built-entry-is = refl

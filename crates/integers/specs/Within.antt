@@ -2,7 +2,7 @@
 --
 -- Main results
 --   within-add, within-sub, within-neg, within-mul, within-scale     bounds of sums, differences, products, multiples
---   within-le, within-is, within-self                                a larger bound, an equal one, a number's own
+--   within-le, within-is, within-self, within-zero                   a larger bound, an equal one, a number's own, any bound of 0
 --   within-sign                                                      of a number times 1 or −1
 --   within-of-abs, abs-of-within, scaled-abs-of-within               the same as |x| ≤ b, or k |x| ≤ b
 --   zero-of-within                                                   within 0 is 0
@@ -61,6 +61,10 @@ within-self {k} h = record {
   low = lin≤ (k ∷ []) (le h) (search linear depth 40) tt;
   high = lin≤ (k ∷ []) (le h) (search linear depth 40) tt;
 }
+
+-- 0 is within every bound
+pub within-zero : (b : ℕ) → Within (pos b) (pos 0)
+within-zero b = within-le (nonneg b) (within-self (nonneg 0))
 
 pub within-scale : {b x : ℤ} (k : ℕ) → Within b x → Within (pos k *ℤ b) (pos k *ℤ x)
 within-scale k w = within-mul (within-self (nonneg k)) w

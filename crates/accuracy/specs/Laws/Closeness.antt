@@ -29,7 +29,7 @@ use Rattle.accuracy.specs.Tile.{ClosedOnTile, CellOf}
 use Rattle.accuracy.specs.ExactArea.{denominator, exactAreaNum}
 use Rattle.accuracy.specs.ExactDetails.{exactDetailNum}
 use Rattle.accuracy.specs.OutlineTable.{outlineTable}
-use Rattle.accuracy.specs.Accurate.{miss, missLimit}
+use Rattle.accuracy.specs.Accurate.{miss, twiceMissLimit}
 use Rattle.accuracy.specs.Laws.ExactFigures.{exactTable, exact-figure}
 use Rattle.accuracy.specs.Laws.RoundingErrors.{Counts, counts-inside, counts-octilinear, detail-misses}
 
@@ -38,7 +38,7 @@ abbrev errors : ℕ → List Edge → Coefficients dimensions
 errors depth es = combine (pos 2 *ℤ pos (denominator es)) (outlineTable depth es) (negsuc 1) (exactTable depth es)
 
 -- where every cell above contributes n: 3 × (1 + 4 + .. + 4^(L − 1)) = 4^L − 1 times n
-bound-same : (n level cx cy : ℕ) → bound dimensions 0 (λ j cell. n) level (at cx cy) ≡ missLimit level n
+bound-same : (n level cx cy : ℕ) → bound dimensions 0 (λ j cell. n) level (at cx cy) ≡ twiceMissLimit level n
 bound-same n level cx cy =
     let b : bound dimensions 0 (λ j cell. n) level (at cx cy) + n ≡ 4 ^ level * n + 0 = bound-const dimensions 0 n level (at cx cy) in
     let p : 4 ^ level ≡ 4 ^ level - 1 + 1 = omega (arith, one-le-pow level 4 (omega arith)) in
@@ -76,16 +76,16 @@ module _ {depth : ℕ} {es : List Edge} (o : ClosedOnTile depth es) where
       scaled = bound-scale dimensions 0 (λ j cell. tally (k j cell) es) D level (at cx cy)
 
   pub miss-within : (level cx cy : ℕ) → CellOf depth level cx cy
-      → Within (pos (missLimit level (length es) * denominator es)) (pos 2 *ℤ miss depth es level cx cy)
+      → Within (pos (twiceMissLimit level (length es) * denominator es)) (pos 2 *ℤ miss depth es level cx cy)
   miss-within level cx cy c =
       let all : tally (λ e. 1) es ≡ length es = omega (arith, tally-const 1 es) in
-      within-is (ap (λ n. pos (n * denominator es)) (bound-same (tally (λ e. 1) es) level cx cy ∙ ap (missLimit level) all)) refl
+      within-is (ap (λ n. pos (n * denominator es)) (bound-same (tally (λ e. 1) es) level cx cy ∙ ap (twiceMissLimit level) all)) refl
       (miss-by-edges (counts-inside depth es (λ j cell e. 1) (λ j cell e n. absurd (omega arith))) level cx cy c)
 
   pub miss-zero : All Octilinear es → (level cx cy : ℕ) → CellOf depth level cx cy → miss depth es level cx cy ≡ pos 0
   miss-zero s level cx cy c =
       let none : tally (λ e. 0) es ≡ 0 = omega (arith, tally-const 0 es) in
       let b : bound dimensions 0 (λ j cell. tally (λ e. 0) es) level (at cx cy) * denominator es ≡ 0 =
-      omega (arith, ap (λ n. n * denominator es) (bound-same (tally (λ e. 0) es) level cx cy ∙ ap (missLimit level) none)) in
+      omega (arith, ap (λ n. n * denominator es) (bound-same (tally (λ e. 0) es) level cx cy ∙ ap (twiceMissLimit level) none)) in
       lin≡ (miss depth es level cx cy ∷ [])
       (eq (zero-of-within (within-is (ap pos b) refl (miss-by-edges (counts-octilinear depth s) level cx cy c)))) (search linear depth 40) (tt, tt)

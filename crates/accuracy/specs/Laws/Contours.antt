@@ -3,7 +3,7 @@
 -- Main results
 --   contourEdges-length, outlineEdges-length      "The edges are as many as the points."
 --   outline-closed                                whatever is gained along the edges adds up to 0
---   outline-on-tile                               an outline's edges are closed and on the tile
+--   contour-on-tile, outline-on-tile              a contour's edges are on the tile; an outline's are closed and on the tile
 use mathlib.Core.Path.{_≡_, refl, _∙_, ap, ap₂}
 use mathlib.Core.List.{List, [], _∷_}
 use Prim.Native.Nat.{ℕ, suc, _+_}
@@ -62,15 +62,15 @@ module _ (depth : ℕ) where
   through-on p [] last i is l = (record { start = i; end = l }, tt)
   through-on p (q ∷ qs) last i is l = (record { start = i; end = is .0 }, through-on q qs last (is .0) (is .1) l)
 
-  contour-on : (ps : List Point) → All (OnTile depth) ps → All (EdgeOnTile depth) (contourEdges ps)
+  pub contour-on-tile : (ps : List Point) → All (OnTile depth) ps → All (EdgeOnTile depth) (contourEdges ps)
   unfolding contourEdges
-  contour-on [] is = tt
-  contour-on (p ∷ ps) is = through-on p ps p (is .0) (is .1) (is .0)
+  contour-on-tile [] is = tt
+  contour-on-tile (p ∷ ps) is = through-on p ps p (is .0) (is .1) (is .0)
 
   outline-on : (cs : List (List Point)) → All (All (OnTile depth)) cs → All (EdgeOnTile depth) (outlineEdges cs)
   unfolding outlineEdges
   outline-on [] is = tt
-  outline-on (c ∷ cs) is = all-append (EdgeOnTile depth) (contourEdges c) (outlineEdges cs) (contour-on c (is .0)) (outline-on cs (is .1))
+  outline-on (c ∷ cs) is = all-append (EdgeOnTile depth) (contourEdges c) (outlineEdges cs) (contour-on-tile c (is .0)) (outline-on cs (is .1))
 
 pub outline-on-tile : (depth : ℕ) (cs : List (List Point)) → All (All (OnTile depth)) cs → ClosedOnTile depth (outlineEdges cs)
 outline-on-tile depth cs on = record { closed = outline-closed cs; on-tile = outline-on depth cs on }

@@ -1,6 +1,8 @@
 -- How large the entries of an outline's table are. On a tile s steps wide an edge adds at most s² to an entry, either way.
 --
 -- Main results
+--   tile-width-le                no tile is wider than the greatest
+--   edge-bounded                 what one edge adds to an entry is at most s²
 --   entries-bounded              every entry is at most the number of edges times s²
 --   built-entries                and so at most `builtEntryLimit` for a depth and a number of edges that are accepted
 use mathlib.Core.List.{List}
@@ -17,9 +19,9 @@ use Rattle.integers.specs.Within.{Within, within-le, within-self, within-mul, a
 use Rattle.integers.specs.ListSum.{All, all-map, total-bounded}
 use Rattle.edge.specs.declared.Edge.{Edge}
 use Rattle.edge.specs.Rounded.{details, rootTerm}
+use Rattle.edge.specs.Nested.{OnCell}
 use Rattle.edge.specs.Laws.Cells.{difference-on, product-on}
 use Rattle.edge.specs.Laws.Bounds.{rounded-h-bound, rounded-v-bound, rounded-d-bound}
-use Rattle.edge.specs.Laws.WholeTile.{OnCell}
 use Rattle.haar.specs.Table.{Bounded}
 use Rattle.haar.specs.Plane.{dimensions}
 use Rattle.accuracy.specs.Tile.{cellWidth, square, tile, EdgeOnTile}
@@ -31,9 +33,12 @@ use Rattle.accuracy.specs.Laws.Numbered.{by-number}
 width-le : {i j : ℕ} → i ≤ j → stepsPerPixel * 2 ^ i ≤ stepsPerPixel * 2 ^ j
 width-le h = mul-le-mul-left stepsPerPixel (pow-le-pow-right {n = 2} (omega arith) h)
 
+pub tile-width-le : {depth : ℕ} → depth ≤ greatestDepth → cellWidth depth 0 ≤ greatestCoordinate
+tile-width-le {depth} g = width-le (le-trans (sub-le depth 0) g)
+
 -- ---- what one edge adds
 -- To the root, the difference of two products of coordinates, neither below 0; to a detail, how far it runs in x or in y times the cell's width.
-edge-bounded : {depth : ℕ} {e : Edge} → EdgeOnTile depth e
+pub edge-bounded : {depth : ℕ} {e : Edge} → EdgeOnTile depth e
     → Bounded dimensions depth (cellWidth depth 0 * cellWidth depth 0) (λ j cell. cellWidth depth 0 * cellWidth depth 0) (edgeTable depth e)
 unfolding rootTerm
 edge-bounded {depth} {e} o = record {
@@ -74,7 +79,7 @@ entries-bounded {depth} es on =
 pub built-entries : {depth : ℕ} (es : List Edge) → All (EdgeOnTile depth) es → depth ≤ greatestDepth → length es ≤ mostEdges
     → Bounded dimensions depth builtEntryLimit (λ j cell. builtEntryLimit) (outlineTable depth es)
 built-entries {depth} es on g h =
-    let s : cellWidth depth 0 ≤ greatestCoordinate = width-le (le-trans (sub-le depth 0) g) in
+    let s = tile-width-le g in
     let b = pos-≤ℤ (mul-le-mul h (mul-le-mul s s)) in
     let t = entries-bounded es on in
     record {

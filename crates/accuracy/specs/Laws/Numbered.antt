@@ -2,6 +2,8 @@
 --
 -- Main results
 --   by-number                    what holds of h, v and d holds of the detail of every number
+--   numbered-any                 what holds of them and of 0 holds of `numbered` at any number
+--   numbered-none                a number that no detail has gives 0
 --   numbered-each                what is done to each of the three is done to the detail of a number
 use mathlib.Core.Path.{_≡_, refl, sym}
 use Prim.Native.Nat.{ℕ, zero, suc, _≤_}
@@ -19,6 +21,22 @@ by-number P w h v d (suc zero) i j = h
 by-number P w h v d (suc (suc zero)) i j = v
 by-number P w h v d (suc (suc (suc zero))) i j = d
 by-number P w h v d (suc (suc (suc (suc k)))) i j = absurd (omega arith)
+
+pub numbered-any : (P : ℤ → Type 0) (w : Details) → P (pos 0) → P (w .h) → P (w .v) → P (w .d) → (k : ℕ) → P (numbered w k)
+unfolding numbered
+numbered-any P w o h v d zero = o
+numbered-any P w o h v d (suc zero) = h
+numbered-any P w o h v d (suc (suc zero)) = v
+numbered-any P w o h v d (suc (suc (suc zero))) = d
+numbered-any P w o h v d (suc (suc (suc (suc k)))) = o
+
+pub numbered-none : (w : Details) (k : ℕ) → (1 ≤ k → k ≤ details dimensions → ⊥) → numbered w k ≡ pos 0
+unfolding numbered
+numbered-none w zero h = refl
+numbered-none w (suc zero) h = absurd (h (omega arith) (omega arith))
+numbered-none w (suc (suc zero)) h = absurd (h (omega arith) (omega arith))
+numbered-none w (suc (suc (suc zero))) h = absurd (h (omega arith) (omega arith))
+numbered-none w (suc (suc (suc (suc k)))) h = refl
 
 pub numbered-each : (f : ℤ → ℤ) → f (pos 0) ≡ pos 0 → (w : Details) (k : ℕ)
     → numbered (record { h = f (w .h); v = f (w .v); d = f (w .d) }) k ≡ f (numbered w k)

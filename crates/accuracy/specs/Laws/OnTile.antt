@@ -8,7 +8,7 @@ use lib.IntN.{ℤ, pos}
 use lib.Signed.{_≤ℤ_}
 use Rattle.integers.specs.Linear.{le, linear, lin≤}
 use Rattle.edge.specs.declared.Edge.{Edge}
-use Rattle.edge.specs.Laws.WholeTile.{OnRange, OnCell}
+use Rattle.edge.specs.Nested.{OnRange, OnCell}
 use Rattle.accuracy.specs.Tile.{tile, EdgeOnTile}
 
 from-zero : {p w : ℤ} → pos 0 ≤ℤ p → p ≤ℤ w → OnRange (pos 0) w p

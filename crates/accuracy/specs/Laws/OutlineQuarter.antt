@@ -20,7 +20,8 @@ use Rattle.edge.specs.declared.Edge.{Edge}
 use Rattle.edge.specs.declared.Cell.{Cell as Square}
 use Rattle.edge.specs.Walk.{steps}
 use Rattle.edge.specs.Integrals.{areaNum}
-use Rattle.edge.specs.Laws.Quarter.{quarter, boundary, edge-quarter}
+use Rattle.edge.specs.Nested.{quarter}
+use Rattle.edge.specs.Laws.Quarter.{boundary, edge-quarter}
 use Rattle.haar.specs.Plane.{hDetail, vDetail, dDetail, quarterDetails, at}
 use Rattle.accuracy.specs.Outline.{gain, ClosedEdges}
 use Rattle.accuracy.specs.Tile.{cellWidth, square}

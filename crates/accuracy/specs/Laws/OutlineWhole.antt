@@ -15,7 +15,8 @@ use Rattle.edge.specs.declared.Cell.{Cell as Square}
 use Rattle.edge.specs.Walk.{steps}
 use Rattle.edge.specs.Integrals.{areaNum}
 use Rattle.edge.specs.Rounded.{rootTerm}
-use Rattle.edge.specs.Laws.WholeTile.{OnCell, rootBoundary, whole-tile}
+use Rattle.edge.specs.Nested.{OnCell}
+use Rattle.edge.specs.Laws.WholeTile.{rootBoundary, whole-tile}
 use Rattle.haar.specs.Plane.{at}
 use Rattle.accuracy.specs.Outline.{signedArea, gain, ClosedEdges}
 use Rattle.accuracy.specs.Tile.{tile, ClosedOnTile}

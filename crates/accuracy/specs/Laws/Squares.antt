@@ -12,9 +12,9 @@ use native.Mathlib.Nat.{pow-succ', div-add-mod, zero-mul}
 use lib.IntN.{pos, negsuc, _+ℤ_, _*ℤ_}
 use Rattle.integers.specs.Units.{stepsPerPixel}
 use Rattle.integers.specs.Ring.{read, comb, _⊕_, _⊗_}
-use Rattle.edge.specs.Laws.Quarter.{quarter}
 use Rattle.haar.specs.Plane.{at}
 use Rattle.accuracy.specs.Tile.{cellWidth, square, tile}
+use Rattle.edge.specs.Nested.{quarter}
 
 pub cellWidth-halves : (depth j : ℕ) → j < depth → pos (cellWidth depth j) ≡ pos (cellWidth depth (suc j)) +ℤ pos (cellWidth depth (suc j))
 cellWidth-halves depth j h =

@@ -13,9 +13,9 @@ use Rattle.edge.specs.declared.Edge.{Edge}
 use Rattle.edge.specs.declared.Cell.{Cell}
 use Rattle.edge.specs.Walk.{dx, dy}
 use Rattle.edge.specs.Room.{coordinateLimit, extentLimit}
-use Rattle.edge.specs.Laws.WholeTile.{OnRange, OnCell}
 use Rattle.edge.proofs.InQuarter.{toNearer, quarterH, quarterV, quarterD, in-cell, in-quarter}
 use Rattle.integers.specs.Bits.{back, back-is, result-is}
+use Rattle.edge.specs.Nested.{OnRange, OnCell}
 use Rattle.edge.specs.Lemmas.Records.{details-eq}
 use Rattle.integers.specs.Held.{Held, held-add, held-sub, held-neg, held-mul, held-fits, held-back, held-within}
 use Rattle.edge.proofs.Sizes.{difference, width-within}

@@ -5,7 +5,8 @@
 --   extent-at-most, extent-times                         bounds of an extent
 --   difference-on, product-on                            two coordinates between two sides are at most the width apart; the product of two
 --                                                        between 0 and w is between 0 and w²
---   Sheet, sheet-room                                    an edge on a sheet has room in each even cell of it whose width times the sheet's is in range
+--   sheet-measured                                       an edge on a sheet is in range
+--   sheet-room                                           so it has room in each even cell of the sheet whose width times the sheet's is in range
 use mathlib.Core.Path.{_≡_}
 use mathlib.Core.List.{[], _∷_}
 use Prim.Native.Nat.{ℕ, zero, suc, _<_}
@@ -19,10 +20,8 @@ use Rattle.integers.specs.Within.{Within}
 use Rattle.edge.specs.declared.Edge.{Edge}
 use Rattle.edge.specs.declared.Cell.{Cell}
 use Rattle.edge.specs.Walk.{extent, dx, dy}
-use Rattle.edge.specs.Inside.{Contains}
-use Rattle.edge.specs.Room.{coordinateLimit, Even, Room}
-use Rattle.edge.specs.Laws.Quarter.{quarter}
-use Rattle.edge.specs.Laws.WholeTile.{OnRange, OnCell}
+use Rattle.edge.specs.Room.{coordinateLimit, Measured, Even, Room}
+use Rattle.edge.specs.Nested.{quarter, Contains, OnRange, OnCell, Sheet}
 
 -- ---- cells in cells
 pub contains-refl : (c : Cell) → Contains c c
@@ -86,18 +85,18 @@ product-on {w} {p} {q} i j = record {
       (search linear depth 40) tt;
 }
 
--- A sheet: the square that edges lie on, as 01's tile is. It is at least one step wide, and its sides are in range.
-pub record Sheet (s : Cell) : Type 0 where
-  pub width : pos 1 ≤ℤ s .width
-  pub left : Within (pos coordinateLimit) (s .left)
-  pub right : (s .left +ℤ s .width) ≤ℤ pos coordinateLimit
-  pub top : Within (pos coordinateLimit) (s .top)
-  pub bottom : (s .top +ℤ s .width) ≤ℤ pos coordinateLimit
-
 coordinate-on : {side w p : ℤ} → Within (pos coordinateLimit) side → (side +ℤ w) ≤ℤ pos coordinateLimit → OnRange side w p → Within (pos coordinateLimit) p
 coordinate-on {side} {w} {p} i j o = record {
   low = ≤ℤ-trans (i .low) (o .low);
   high = ≤ℤ-trans (o .high) j;
+}
+
+pub sheet-measured : {s : Cell} {e : Edge} → Sheet s → OnCell s e → Measured e
+sheet-measured t o = record {
+  x0 = coordinate-on (t .left) (t .right) (o .x0);
+  y0 = coordinate-on (t .top) (t .bottom) (o .y0);
+  x1 = coordinate-on (t .left) (t .right) (o .x1);
+  y1 = coordinate-on (t .top) (t .bottom) (o .y1);
 }
 
 -- a side of a cell in the sheet is on it too
@@ -106,12 +105,7 @@ side-on {side} {w} {side′} {w′} h i j = record { low = i; high = lin≤ (sid
 
 pub sheet-room : {s c : Cell} {e : Edge} → Sheet s → OnCell s e → Contains s c → Even (c .width) → (s .width *ℤ c .width) ≤ℤ pos widthTimesExtentLimit → Room e c
 sheet-room {s} {c} {e} t o k v m = record {
-  edge = record {
-    x0 = coordinate-on (t .left) (t .right) (o .x0);
-    y0 = coordinate-on (t .top) (t .bottom) (o .y0);
-    x1 = coordinate-on (t .left) (t .right) (o .x1);
-    y1 = coordinate-on (t .top) (t .bottom) (o .y1);
-  };
+  edge = sheet-measured t o;
   left = coordinate-on (t .left) (t .right) (side-on w≥0 (k .left) (k .right));
   top = coordinate-on (t .top) (t .bottom) (side-on w≥0 (k .top) (k .bottom));
   even = v;

@@ -2,9 +2,9 @@
 -- term of its two end points.
 --
 -- Main results
---   quarter                 quarter (i, j) of a cell; h has the sign `halfSign i` there, v `halfSign j`, d their product
 --   boundary                the term of an end point
---   edge-quarter            4 × area in quarter (i, j) = area ± h ± (v and the end points' terms) ± d, for the four quarters at once
+--   edge-quarter            4 × area in quarter (i, j) = area ± h ± (v and the end points' terms) ± d, for the four quarters at once: h has the sign
+--                           `halfSign i` there, v `halfSign j`, d their product
 use mathlib.Core.Path.{_≡_, sym, _∙_, ap, ap₂}
 use mathlib.Core.List.{[], _∷_}
 use Prim.Native.Nat.{ℕ, _<_}
@@ -21,12 +21,9 @@ use Rattle.edge.specs.declared.Edge.{Edge}
 use Rattle.edge.specs.declared.Cell.{Cell}
 use Rattle.edge.specs.declared.Axis.{Axis}
 use Rattle.edge.specs.Walk.{ax, ay, steps, xAxis, yAxis, beyond, past, near}
+use Rattle.edge.specs.Nested.{quarter}
 use Rattle.edge.specs.Lemmas.Ends.{beyond-start, x-end, y-end, past-scale, near-scale}
 use Rattle.edge.specs.Integrals.{along, areaNum, hNum, vNum, dNum}
-
--- quarter (i, j) of a cell whose width is half + half: i is 0 on the left and 1 on the right, j is 0 above and 1 below
-abbrev pub quarter : Cell → ℤ → ℕ → ℕ → Cell
-quarter c half i j = record { left = c .left +ℤ pos i *ℤ half; top = c .top +ℤ pos j *ℤ half; width = half }
 
 -- A function of the end point alone: around a closed contour each point is the end of one edge and the start of the next, and it cancels.
 unfoldable pub boundary : Cell → ℤ → ℤ → ℤ

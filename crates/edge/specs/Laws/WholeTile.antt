@@ -1,7 +1,6 @@
 -- An edge that lies in a cell, as every edge of an outline lies on the tile: its area there is its term of the root, and a term of its two end points.
 --
 -- Main results
---   OnRange, OnCell          a coordinate between two sides; both end points of an edge in the closed cell
 --   stays-between           a walk whose two ends lie between two sides stays between them
 --   rootBoundary            the term of an end point
 --   whole-tile              area = root term + the end points' terms, N times over
@@ -21,21 +20,11 @@ use Rattle.edge.specs.declared.Edge.{Edge}
 use Rattle.edge.specs.declared.Cell.{Cell}
 use Rattle.edge.specs.declared.Axis.{Axis}
 use Rattle.edge.specs.Walk.{ax, ay, steps, xAxis, yAxis, beyond, past}
+use Rattle.edge.specs.Nested.{OnRange, OnCell}
 use Rattle.edge.specs.Lemmas.Ends.{x-end, y-end}
 use Rattle.edge.specs.Integrals.{areaNum}
 use Rattle.edge.specs.Lemmas.OneDirection.{ClosedRun}
 use Rattle.edge.specs.Rounded.{rootTerm}
-
--- p lies between two sides, w apart, or on one of them
-pub record OnRange (side w p : ℤ) : Type 0 where
-  pub low : side ≤ℤ p
-  pub high : p ≤ℤ (side +ℤ w)
-
-pub record OnCell (c : Cell) (e : Edge) : Type 0 where
-  pub x0 : OnRange (c .left) (c .width) (e .x0)
-  pub y0 : OnRange (c .top) (c .width) (e .y0)
-  pub x1 : OnRange (c .left) (c .width) (e .x1)
-  pub y1 : OnRange (c .top) (c .width) (e .y1)
 
 -- A function of the end point alone: around a closed contour it cancels, and the root terms are left.
 unfoldable pub rootBoundary : Cell → ℤ → ℤ → ℤ

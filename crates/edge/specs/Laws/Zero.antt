@@ -27,8 +27,9 @@ use Rattle.edge.specs.declared.Cell.{Cell}
 use Rattle.edge.specs.declared.Axis.{Axis}
 use Rattle.edge.specs.Walk.{ax, ay, steps, xAxis, yAxis, past, near}
 use Rattle.edge.specs.Integrals.{along, hOn, dOn, hNum, vNum, dNum}
-use Rattle.edge.specs.Inside.{Between, SomeStepInside, Inside, Contains}
+use Rattle.edge.specs.Inside.{Between, SomeStepInside, Inside}
 use Rattle.edge.specs.Rounded.{details, Exact}
+use Rattle.edge.specs.Nested.{Contains}
 use Rattle.edge.specs.Lemmas.Records.{details-eq}
 use Rattle.edge.specs.Laws.StepCount.{rounded-whole, whole-kept}
 use Rattle.edge.specs.Lemmas.Ends.{Steady, steady-within, x-steady, y-steady}

@@ -4,6 +4,8 @@
 --   IsDetail                     detail e of a cell of level j exists
 --   index-low, index-pos         a level's details stand from `children n ^ j` on, and none at 0, the root's index
 --   index-high, index-within     they stand before those of the next level, and so within a table of any greater depth
+--   cellOf, numberOf             the cell and the number of the detail at an index, of a level that is known
+--   cellOf-index, numberOf-index at a detail's own index they are its own
 --   SameDetail, index-injective  details with one index are one and the same
 --   DetailAt, index-onto         every index of a table but the root's has a detail
 --   index-plane                  the indices on the tile
@@ -43,22 +45,22 @@ pub index-within : {n j depth : ℕ} {cell : Cell n} {e : ℕ} → j < depth →
 index-within {n} h d = omega (arith, index-high d, pow-le-pow-right {n = children n} (pow-pos n) h)
 
 -- ---- the cell and the number of the detail at index i, of a level that is known
-abbrev cellOf : (n j i : ℕ) → Cell n
+abbrev pub cellOf : (n j i : ℕ) → Cell n
 cellOf n j i = cellAt n (2 ^ j) ((i - children n ^ j) / details n)
 
-abbrev numberOf : (n j i : ℕ) → ℕ
+abbrev pub numberOf : (n j i : ℕ) → ℕ
 numberOf n j i = suc ((i - children n ^ j) % details n)
 
 offset : (n j : ℕ) (cell : Cell n) (e : ℕ) → index n j cell e - children n ^ j ≡ rowMajor n (2 ^ j) cell * details n + (e - 1)
 unfolding index
 offset n j cell e = omega arith
 
-cellOf-index : {n j : ℕ} {cell : Cell n} {e : ℕ} → IsDetail n j cell e → cellOf n j (index n j cell e) ≡ cell
+pub cellOf-index : {n j : ℕ} {cell : Cell n} {e : ℕ} → IsDetail n j cell e → cellOf n j (index n j cell e) ≡ cell
 cellOf-index {n} {j} {cell} {e} d =
     ap (λ o. cellAt n (2 ^ j) (o / details n)) (offset n j cell e) ∙ ap (cellAt n (2 ^ j)) (digits-div _ (omega arith))
     ∙ cellAt-rowMajor n (2 ^ j) cell (d .inside)
 
-numberOf-index : {n j : ℕ} {cell : Cell n} {e : ℕ} → IsDetail n j cell e → numberOf n j (index n j cell e) ≡ e
+pub numberOf-index : {n j : ℕ} {cell : Cell n} {e : ℕ} → IsDetail n j cell e → numberOf n j (index n j cell e) ≡ e
 numberOf-index {n} {j} {cell} {e} d = ap (λ o. suc (o % details n)) (offset n j cell e) ∙ ap suc (digits-mod _ (omega arith)) ∙ omega arith
 
 -- ---- one to one
