@@ -1,0 +1,152 @@
+-- A cell quarter by quarter. A quarter inside which no part of the edge lies is passed over, and nothing is missed.
+--
+-- Main results
+--   OwnAdded, own-added                               the table when the cell has added its own details
+--   firstQuarters, QuarterLoop                        what the first q quarters add; the table when they have had the edge too
+--   quarters-start, quarters-step, quarters-skip      before the first quarter; to the next, when one had the edge or was passed over
+--   quarters-asks                                     what the call for a quarter asks for
+--   own-length, quarters-length                       the table is as long as it was
+--   quarters-end, own-end                             the cell has added all of the edge: after the fourth quarter, and on the last level
+--   not-inside-of-span                                no steps inside: no part of the edge lies inside
+use mathlib.Core.Path.{_≡_, refl, sym, _∙_, ap, ap₂, subst⁻¹}
+use mathlib.Core.List.{List, [], _∷_}
+use Prim.Native.Nat.{ℕ, suc, _+_, _*_, _<_, _≤_}
+use native.Mathlib.Omega.{arith}
+use native.Mathlib.Numerals.{add-one}
+use native.Mathlib.Nat.{mul-le-mul-right}
+use lib.ListN.{length}
+use lib.IntN.{ℤ, pos, _+ℤ_, _*ℤ_}
+use lib.Signed.{_≤ℤ_, _<ℤ_}
+use Rattle.integers.specs.Units.{detailLimit}
+use Rattle.integers.specs.Linear.{le, lt, _&_, linear, lin⊥}
+use Rattle.integers.specs.Within.{Within, within-is}
+use Rattle.integers.specs.RangeSum.{Σ<, Σ-zero, Σ-suc, Σ-cong, Σ-const, Σ-within}
+use Rattle.edge.specs.declared.Edge.{Edge}
+use Rattle.edge.specs.declared.Cell.{Cell as Square}
+use Rattle.edge.specs.declared.Details.{Details}
+use Rattle.edge.specs.declared.Walk.{Walk}
+use Rattle.edge.specs.declared.Span.{Span}
+use Rattle.edge.specs.Inside.{Inside}
+use Rattle.edge.specs.Cuts.{span}
+use Rattle.edge.specs.WalkOf.{IsWalk}
+use Rattle.edge.specs.Rounded.{details}
+use Rattle.edge.specs.Laws.WalkInside.{span-of-inside}
+use Rattle.rasterize.specs.declared.Node.{Node}
+use Rattle.rasterize.specs.Added.{added}
+use Rattle.rasterize.specs.Nodes.{quarters, quarterNode}
+use Rattle.rasterize.specs.Contribution.{firstDetail, ownPart, contribution}
+use Rattle.rasterize.specs.Ready.{visits, Spare, Placed, Ready}
+use Rattle.rasterize.specs.Laws.Adding.{added-length, added-signed, added-nothing}
+use Rattle.rasterize.specs.Laws.Spare.{spare-le, spare-added, signed-within}
+use Rattle.rasterize.specs.Laws.Placed.{placed-details, quarter-placed}
+use Rattle.rasterize.specs.Laws.Contributions.{own-within, contribution-zero, contribution-suc, contribution-outside, contribution-within}
+use Rattle.rasterize.specs.Laws.ReadyCells.{ready-quarter}
+
+-- ---- the table on the way
+module _ (e : Edge) (c : Node) where
+  -- what the cell's own details add
+  abbrev own : ℕ → ℤ
+  own i = ownPart (details e (c .square)) (firstDetail c) i
+
+  -- what the first q quarters add, with everything below them
+  abbrev pub firstQuarters : ℕ → ℕ → ℕ → ℤ
+  firstQuarters left q i = Σ< q (λ p. contribution e left (quarterNode c p) i)
+
+module _ (e : Edge) (sign : ℤ) (c : Node) where
+  pub record OwnAdded (before entry : List ℤ) : Type 0 where
+    pub sum : entry ≡ added before (λ i. sign *ℤ own e c i)
+
+  -- `entry` is the table when the cell has added its own details, `left` the number of levels below the cell
+  pub record QuarterLoop (left : ℕ) (entry table : List ℤ) (q : ℕ) : Type 0 where
+    pub reached : q ≤ quarters
+    pub sum : table ≡ added entry (λ i. sign *ℤ firstQuarters e c left q i)
+
+module _ {e : Edge} {sign : ℤ} {c : Node} where
+  pub own-added : {before entry : List ℤ} {w : Details} {first : ℕ} → w ≡ details e (c .square) → first ≡ firstDetail c
+      → entry ≡ added before (λ i. sign *ℤ ownPart w first i) → OwnAdded e sign c before entry
+  own-added {before} f g h = record { sum = h ∙ ap₂ (λ w first. added before (λ i. sign *ℤ ownPart w first i)) f g }
+
+  pub own-length : {before entry : List ℤ} → OwnAdded e sign c before entry → length entry ≡ length before
+  own-length {before} o = ap length (o .sum) ∙ added-length before (λ i. sign *ℤ own e c i)
+
+  pub quarters-start : (left : ℕ) (entry : List ℤ) → QuarterLoop e sign c left entry entry 0
+  quarters-start left entry = record {
+    reached = omega arith;
+    sum = sym (added-nothing entry sign (firstQuarters e c left 0) (λ i. Σ-zero (λ p. contribution e left (quarterNode c p) i)));
+  }
+
+  module _ {left : ℕ} {entry table : List ℤ} {q : ℕ} (g : QuarterLoop e sign c left entry table q) where
+    pub quarters-length : length table ≡ length entry
+    quarters-length = ap length (g .sum) ∙ added-length entry (λ i. sign *ℤ firstQuarters e c left q i)
+
+    pub quarters-step : {quarter : Node} {after : List ℤ} → q < quarters → quarter ≡ quarterNode c q
+        → after ≡ added table (λ i. sign *ℤ contribution e left quarter i) → QuarterLoop e sign c left entry after (q + 1)
+    quarters-step {quarter} {after} h k s = record {
+      reached = omega arith;
+      sum = s
+          ∙ ap₂ (λ t n. added t (λ i. sign *ℤ contribution e left n i)) (g .sum) k
+          ∙ added-signed entry sign (firstQuarters e c left q) (contribution e left (quarterNode c q)) (firstQuarters e c left (q + 1)) (λ i l. next i);
+    }
+      where
+        next : (i : ℕ) → firstQuarters e c left q i +ℤ contribution e left (quarterNode c q) i ≡ firstQuarters e c left (q + 1) i
+        next i = let f : ℕ → ℤ = λ p. contribution e left (quarterNode c p) i in sym (ap (λ n. Σ< n f) (add-one q) ∙ Σ-suc q f)
+
+  -- ---- the cell has added all of the edge
+  module _ {left : ℕ} {before entry : List ℤ} (o : OwnAdded e sign c before entry) where
+    pub quarters-end : {table : List ℤ} {q : ℕ} → quarters ≤ q → QuarterLoop e sign c left entry table q
+        → table ≡ added before (λ i. sign *ℤ contribution e (suc left) c i)
+    quarters-end {table} {q} h g =
+        let all : q ≡ quarters = omega (arith, g .reached) in
+        g .sum
+        ∙ ap₂ (λ t n. added t (λ i. sign *ℤ firstQuarters e c left n i)) (o .sum) all
+        ∙ added-signed before sign (own e c) (firstQuarters e c left quarters) (contribution e (suc left) c) (λ i l. sym (contribution-suc e left c i))
+
+    -- below the last level nothing is added
+    pub own-end : left ≡ 0 → entry ≡ added before (λ i. sign *ℤ contribution e (suc left) c i)
+    own-end z = quarters-end {q = quarters} (omega arith) (record {
+      reached = omega arith;
+      sum = sym (added-nothing entry sign (firstQuarters e c left quarters) none);
+    })
+      where
+        none : (i : ℕ) → firstQuarters e c left quarters i ≡ pos 0
+        none i =
+            Σ-cong quarters (λ p. contribution e left (quarterNode c p) i) (λ p. pos 0)
+            (λ p l. ap (λ n. contribution e n (quarterNode c p) i) z ∙ contribution-zero e (quarterNode c p) i)
+            ∙ Σ-const quarters (pos 0)
+
+-- ---- a quarter that the edge does not come into
+pub not-inside-of-span : {w : Walk} {s : Span} (cell : Square) → IsWalk w → s ≡ span (w .x) (w .y) cell (w .steps)
+    → s .last ≤ℤ s .first → Inside (w .edge) cell → ⊥
+not-inside-of-span {w} {s} cell k e h i =
+    lin⊥ (s .first ∷ s .last ∷ []) (le h & lt (subst⁻¹ (λ (z : Span). z .first <ℤ z .last) e (span-of-inside k cell i))) (search linear depth 40) tt
+
+-- ---- of a table, an edge and a cell that the call was ready for
+module _ {before : List ℤ} {e : Edge} {sign : ℤ} {left : ℕ} {c : Node} (r : Ready before e (suc left) c) where
+  pub quarters-skip : {entry table after : List ℤ} {q : ℕ} {quarter : Node} → QuarterLoop e sign c left entry table q → q < quarters → quarter ≡ quarterNode c q
+      → (Inside e (quarter .square) → ⊥) → after ≡ table → QuarterLoop e sign c left entry after (q + 1)
+  quarters-skip {entry} {table} {after} {q} {quarter} g h k out s =
+      quarters-step g h k (s ∙ sym (added-nothing table sign (contribution e left quarter) none))
+    where
+      none : (i : ℕ) → contribution e left quarter i ≡ pos 0
+      none = contribution-outside left quarter (subst⁻¹ (λ n. Placed e left (n .square)) k (quarter-placed c q h (r .placed))) out
+
+  module _ (s : Within (pos 1) sign) {entry : List ℤ} (o : OwnAdded e sign c before entry) where
+    -- the cell's own details have used up the room for one
+    own-spare : Spare entry (quarters * visits left)
+    unfolding visits
+    own-spare = subst⁻¹ (λ t. Spare t (quarters * visits left)) (o .sum)
+        (spare-added 1 (quarters * visits left) (λ i. sign *ℤ own e c i)
+        (λ i h. signed-within s (own-within (placed-details (r .placed)) (firstDetail c) i)) (r .spare))
+
+    -- each quarter before this one has used up its own
+    pub quarters-asks : {table : List ℤ} {q : ℕ} {quarter : Node} → QuarterLoop e sign c left entry table q → q < quarters → quarter ≡ quarterNode c q
+        → Ready table e left quarter
+    quarters-asks {table} {q} g h k = subst⁻¹ (Ready table e left) k
+        (ready-quarter r q h (quarters-length g ∙ own-length o) (subst⁻¹ (λ t. Spare t (visits left)) (g .sum)
+        (spare-added (q * visits left) (visits left) (λ i. sign *ℤ firstQuarters e c left q i) (λ i l. signed-within s (used i))
+        (spare-le (omega (arith, mul-le-mul-right (visits left) h)) own-spare))))
+      where
+        used : (i : ℕ) → Within (pos (q * visits left * detailLimit)) (firstQuarters e c left q i)
+        used i = within-is (ap pos {y = q * visits left * detailLimit} (omega arith)) refl
+            (Σ-within q (λ p. contribution e left (quarterNode c p) i)
+            (λ p l. contribution-within left (quarterNode c p) (quarter-placed c p (omega arith) (r .placed)) i))

@@ -1,0 +1,73 @@
+-- Edge by edge.
+use mathlib.Core.Path.{_≡_, sym, _∙_, subst}
+use Prim.Native.Nat.{_-_}
+use native.Mathlib.Omega.{arith}
+use mir.Syntax.{w64}
+use mir.Val.{toZ}
+use Rattle.integers.specs.Bits.{back, back-is}
+use Rattle.integers.specs.Held.{held-number, held-within}
+use Rattle.accuracy.specs.Outline.{pointsOf, contourEdges}
+use Rattle.rasterize.specs.Added.{added}
+use Rattle.rasterize.specs.Laws.Sums.{edgesPart}
+use Rattle.rasterize.proofs.ContourLoop.{ContourLoop, contour-start, contour-edge, contour-step, contour-asks, contour-end}
+use Rattle.rasterize.proofs.add_contour.Statement.{statement}
+use Rattle.rasterize.proofs.add_contour.Tie as tie
+
+abbrev Inv-loop : tie.InvT-loop
+Inv-loop table₀ points sign depth n k₀ table k = ContourLoop depth (toZ w64 sign) points table₀ table k
+
+abbrev μ-loop : tie.MeasureT-loop
+μ-loop table₀ points sign depth n k₀ table k = n - k
+
+loop-holds : tie.Need-loop-holds Inv-loop μ-loop
+loop-holds c = contour-start (back (c .args .sign)) (c .pre .0)
+
+edge-from-requires : tie.Need-edge-from-requires Inv-loop μ-loop
+edge-from-requires c κs = (c .before .loop-test .taken, omega arith)
+
+add-edge-requires : tie.Need-add-edge-requires Inv-loop μ-loop
+add-edge-requires c κs =
+    let i = c .before .before in
+    let s = i .before .before in (
+      contour-asks (i .before .loop .inv) (i .loop-test .taken),
+      contour-edge (s .args .points .now) (s .pre .1) (i .loop-test .taken) (c .edge-from .ensures),
+      held-within (held-number tt (s .pre .2)),
+    )
+
+add-k : tie.Need-add-k Inv-loop μ-loop
+add-k c = omega (arith, c .before .before .before .before .loop-test .taken)
+
+loop-less : tie.Need-loop-less Inv-loop μ-loop
+loop-less c = omega (arith, c .before .before .before .before .loop-test .taken)
+
+loop-again : tie.Need-loop-again Inv-loop μ-loop
+loop-again c =
+    let e = c .before .before in
+    let i = e .before .before in
+    let s = i .before .before in
+    contour-step (s .args .points .now) (s .pre .1) (i .loop-test .taken) (e .edge-from .ensures) (held-within (held-number tt (s .pre .2))) (i .before .loop .inv)
+    (c .before .add-edge .ensures)
+
+same-length : tie.Need-same-length Inv-loop μ-loop
+same-length c = c .before .loop .inv .fits .exact ∙ sym (c .before .before .pre .0 .exact)
+
+returns : tie.Need-returns Inv-loop μ-loop
+returns c =
+    let s = c .before .before in
+    subst (λ z. c .before .loop .table ≡ added (s .args .table .now) (edgesPart (s .args .depth) z (contourEdges (pointsOf (s .args .points .now)))))
+    (back-is tt (s .pre .2)) (contour-end (c .before .loop .inv) (c .loop-test .left))
+
+pub add-contour-spec : {M : Type 1} → statement M
+add-contour-spec =
+    tie.close
+    (tie.spec
+    Inv-loop
+    μ-loop
+    loop-holds
+    edge-from-requires
+    add-edge-requires
+    add-k
+    loop-less
+    loop-again
+    same-length
+    returns)

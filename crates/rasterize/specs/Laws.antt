@@ -1,0 +1,20 @@
+-- What other crates, and the proofs of the code, know of the definitions. Read in this order.
+
+-- additions to a table, and the room that they need
+pub mod Adding
+pub mod Spare
+-- half of a width, and the quarters of a cell of the tile; which cells lie in which; so what an edge adds in the whole tile is its table
+pub mod Nodes
+pub mod Covering
+pub mod EdgeEntries
+-- from a cell to its quarters; what an edge adds there, and nothing where it has no part inside; what the recursion asks for
+pub mod Placed
+pub mod Contributions
+pub mod ReadyCells
+-- an edge on the tile
+pub mod EdgeOnTile
+-- the tables of several edges add up, and so does the room that they need
+pub mod Sums
+pub mod Fitting
+-- the edges of a contour, one by one
+pub mod ContourEdges

@@ -1,0 +1,41 @@
+-- Room for edges: what `Fits` counts down, one for each edge that is added or taken out.
+--
+-- Main results
+--   fits-le                      room for more edges is room for fewer
+--   fits-edge, fits-edges        what is left of it after one edge, and after all edges of a list
+use mathlib.Core.Path.{_∙_, subst}
+use mathlib.Core.List.{List}
+use Prim.Native.Nat.{ℕ, _+_, _*_, _≤_}
+use native.Mathlib.Omega.{arith}
+use lib.ListN.{length}
+use lib.IntN.{ℤ, pos, _*ℤ_}
+use Rattle.integers.specs.Units.{greatestDepth, detailLimit}
+use Rattle.integers.specs.Within.{Within}
+use Rattle.integers.specs.ListSum.{All}
+use Rattle.edge.specs.declared.Edge.{Edge}
+use Rattle.accuracy.specs.Tile.{EdgeOnTile}
+use Rattle.accuracy.specs.OutlineTable.{edgeTable}
+use Rattle.rasterize.specs.Added.{added, entryOf}
+use Rattle.rasterize.specs.Ready.{visits, Spare, Fits}
+use Rattle.rasterize.specs.Laws.Adding.{added-length}
+use Rattle.rasterize.specs.Laws.Spare.{spare-le, spare-added, signed-within}
+use Rattle.rasterize.specs.Laws.Sums.{edgesPart, edge-entry-within, outline-entry-within}
+
+pub fits-le : {t : List ℤ} {depth m n : ℕ} → n ≤ m → Fits t depth m → Fits t depth n
+fits-le h f = record { shallow = f .shallow; exact = f .exact; spare = spare-le (omega arith) (f .spare) }
+
+fits-added : {t : List ℤ} {depth : ℕ} (m n : ℕ) (g : ℕ → ℤ) → ((i : ℕ) → Within (pos (m * detailLimit)) (g i)) → Fits t depth (m + n)
+    → Fits (added t g) depth n
+fits-added {t} m n g w f = record {
+  shallow = f .shallow;
+  exact = added-length t g ∙ f .exact;
+  spare = spare-added m (n + visits greatestDepth) g (λ i h. w i) (subst (Spare t) (omega arith) (f .spare));
+}
+
+module _ {t : List ℤ} {depth : ℕ} {sign : ℤ} (s : Within (pos 1) sign) where
+  pub fits-edge : {e : Edge} (n : ℕ) → EdgeOnTile depth e → Fits t depth (1 + n) → Fits (added t (λ i. sign *ℤ entryOf depth (edgeTable depth e) i)) depth n
+  fits-edge {e} n on f = fits-added 1 n (λ i. sign *ℤ entryOf depth (edgeTable depth e) i) (λ i. signed-within s (edge-entry-within (f .shallow) on i)) f
+
+  pub fits-edges : (es : List Edge) (n : ℕ) → All (EdgeOnTile depth) es → Fits t depth (length es + n)
+      → Fits (added t (edgesPart depth sign es)) depth n
+  fits-edges es n on f = fits-added (length es) n (edgesPart depth sign es) (λ i. signed-within s (outline-entry-within es (f .shallow) on i)) f

@@ -1,0 +1,102 @@
+-- From a cell to its quarters: an edge and a square that are placed on one sheet stay so in each quarter. So wherever the recursion comes the edge
+-- has room, and its details are small.
+--
+-- Main results
+--   placed-width, placed-even, placed-room           a square that can be halved once more: its width is even, and the edge has room in it
+--   placed-details                                   and its details there are small
+--   placed-contains, placed-quarter                  its quarters lie in it, and are placed like it
+--   quarter-placed, quarter-outside                  the same of quarter q of a cell; an edge outside the cell is outside the quarter
+use mathlib.Core.Path.{_≡_, sym, _∙_, ap}
+use mathlib.Core.List.{[], _∷_}
+use Prim.Native.Nat.{ℕ, suc, _*_, _/_, _%_, _^_, _<_}
+use native.Mathlib.Omega.{arith}
+use native.Mathlib.Nat.{pow-suc}
+use lib.IntN.{ℤ, pos, natAbs, _+ℤ_, _*ℤ_}
+use lib.Signed.{_≤ℤ_}
+use Rattle.integers.specs.Units.{widthTimesExtentLimit}
+use Rattle.integers.specs.Order.{nonneg, ≤ℤ-mul}
+use Rattle.integers.specs.Linear.{le, eq, _&_, linear, lin≤}
+use Rattle.integers.specs.Magnitude.{abs}
+use Rattle.integers.specs.Within.{Within, within-le, abs-of-within}
+use Rattle.edge.specs.declared.Edge.{Edge}
+use Rattle.edge.specs.declared.Cell.{Cell as Square}
+use Rattle.edge.specs.Inside.{Inside}
+use Rattle.edge.specs.Room.{Even, Room}
+use Rattle.edge.specs.Rounded.{details}
+use Rattle.edge.specs.Nested.{Contains, quarter}
+use Rattle.edge.specs.Laws.Cells.{contains-trans, contains-quarter, difference-on, sheet-room}
+use Rattle.edge.specs.Laws.Bounds.{rounded-h-bound, rounded-v-bound, rounded-d-bound}
+use Rattle.edge.specs.Laws.Zero.{inside-wider}
+use Rattle.rasterize.specs.declared.Node.{Node}
+use Rattle.rasterize.specs.Nodes.{quarters, halfWidth, quarterNode}
+use Rattle.rasterize.specs.Ready.{SmallDetails, Placed}
+use Rattle.rasterize.specs.Laws.Nodes.{halfWidth-is}
+
+-- ---- a square that can be halved once more
+module _ {e : Edge} {left : ℕ} {s : Square} (p : Placed e (suc left) s) where
+  abbrev half : ℤ
+  half = pos (2 ^ left * p .finest)
+
+  width-is : s .width ≡ half +ℤ half
+  width-is = p .halves ∙ ap pos (omega (arith, ap (λ n. n * p .finest) (pow-suc 2 left)))
+
+  half-is : half ≡ halfWidth s
+  half-is = halfWidth-is s half width-is (nonneg (2 ^ left * p .finest))
+
+  twice : s .width ≡ halfWidth s +ℤ halfWidth s
+  twice = width-is ∙ ap (λ h. h +ℤ h) half-is
+
+  half≥0 : pos 0 ≤ℤ halfWidth s
+  half≥0 = nonneg (natAbs (s .width) / 2)
+
+  pub placed-width : pos 0 ≤ℤ s .width
+  placed-width = lin≤ (s .width ∷ halfWidth s ∷ []) (eq twice & le half≥0) (search linear depth 40) tt
+
+  pub placed-even : Even (s .width)
+  placed-even = record { half = halfWidth s; half≥0 = half≥0; twice = twice }
+
+  pub placed-room : Room e s
+  placed-room = sheet-room (p .is-sheet) (p .edge-on) (p .square-on) placed-even (p .narrow)
+
+  -- how far the edge runs in a direction is at most the sheet's width
+  run-le : {run : ℤ} → Within (p .sheet .width) run → (abs run *ℤ s .width) ≤ℤ pos widthTimesExtentLimit
+  run-le {run} h =
+      lin≤ (abs run ∷ p .sheet .width ∷ s .width ∷ []) (le (≤ℤ-mul (abs-of-within h) placed-width) & le (p .narrow)) (search linear depth 40) tt
+
+  pub placed-details : SmallDetails (details e s)
+  placed-details =
+      let x = run-le (difference-on (p .edge-on .x0) (p .edge-on .x1)) in
+      let y = run-le (difference-on (p .edge-on .y0) (p .edge-on .y1)) in
+      record {
+        h = within-le y (rounded-h-bound e s placed-width);
+        v = within-le x (rounded-v-bound e s placed-width);
+        d = within-le y (rounded-d-bound e s placed-width);
+      }
+
+  pub placed-contains : (a b : ℕ) → a < 2 → b < 2 → Contains s (quarter s (halfWidth s) a b)
+  placed-contains a b h k = contains-quarter s (halfWidth s) twice half≥0 a b h k
+
+  pub placed-quarter : (a b : ℕ) → a < 2 → b < 2 → Placed e left (quarter s (halfWidth s) a b)
+  placed-quarter a b h k = record {
+    sheet = p .sheet;
+    is-sheet = p .is-sheet;
+    edge-on = p .edge-on;
+    square-on = contains-trans (p .square-on) (placed-contains a b h k);
+    narrow = narrow;
+    finest = p .finest;
+    halves = sym half-is;
+  }
+    where
+      narrow : (p .sheet .width *ℤ halfWidth s) ≤ℤ pos widthTimesExtentLimit
+      narrow =
+          let w = p .sheet .width in
+          lin≤ (w ∷ s .width ∷ halfWidth s ∷ [])
+          (le (p .narrow) & eq (ap (λ z. w *ℤ z) twice) & le (≤ℤ-mul (p .is-sheet .width) half≥0) & le half≥0) (search linear depth 40) tt
+
+-- quarter q of a cell lies in half q % 2 from the left and half q / 2 from the top
+pub quarter-placed : {e : Edge} {left : ℕ} (c : Node) (q : ℕ) → q < quarters → Placed e (suc left) (c .square) → Placed e left (quarterNode c q .square)
+quarter-placed c q h p = placed-quarter p (q % 2) (q / 2) (omega arith) (omega arith)
+
+pub quarter-outside : {e : Edge} {left : ℕ} (c : Node) (q : ℕ) → q < quarters → Placed e (suc left) (c .square) → (Inside e (c .square) → ⊥)
+    → Inside e (quarterNode c q .square) → ⊥
+quarter-outside {e} c q h p out i = out (inside-wider e (placed-contains p (q % 2) (q / 2) (omega arith) (omega arith)) i)

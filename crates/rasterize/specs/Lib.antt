@@ -1,0 +1,14 @@
+-- What an edge, a contour and an outline add to a table. Read in this order.
+
+-- a table with something added to each entry
+pub mod Added
+-- cells of the quadtree, with their squares
+pub mod Nodes
+-- what an edge adds in a cell and below it
+pub mod Contribution
+-- the edges of a contour
+pub mod Contour
+-- what the functions ask of their callers
+pub mod Ready
+-- laws
+pub mod Laws

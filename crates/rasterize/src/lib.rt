@@ -1,0 +1,184 @@
+// An edge, a contour, an outline into a table of Haar coefficients.
+//
+// The tile is cut into quarters, each quarter into quarters, and so on: a quadtree. An edge adds its term of the signed area to the root, and its
+// three details, h, v and d, which `edge` works out, to each cell inside which some part of it lies.
+//
+//       +-------+-------+        The recursion begins with the whole tile. A cell adds its own three details, and hands the edge on to those of
+//       |       |  /    |        its quarters inside which some part of it lies, here all but the upper left one, until the last level. In a
+//       |       | /     |        cell that the edge misses its details are 0, and so they are in every cell inside that one: none of them is visited.
+//       +-------+/------+
+//       |       /       |        A cell's level and numbers say where its details stand in the table, its square says where it lies; a quarter's
+//       |      /|       |        are worked out from its cell's. What is added is multiplied by a sign, 1 to add and -1 to take out again.
+//       +-----/-+-------+
+//
+// A contour is the slice of its own points, and its last point joins its first. An outline is one contour after the other.
+ghost use mathlib.Core.Path.{_≡_};
+ghost use Prim.Native.Nat.{_+_, _*_, _/_, _%_, _-_, _<_, _≤_};
+ghost use lib.ListN.{length, getD, set};
+ghost use lib.IntN.{pos, _+ℤ_, _*ℤ_};
+ghost use Rattle.integers.specs.Within.{Within};
+ghost use Rattle.edge.specs.Cuts.{span as spanOf};
+ghost use Rattle.edge.specs.WalkOf.{IsWalk};
+ghost use Rattle.edge.specs.Room.{Measured};
+ghost use Rattle.edge.specs.Rounded.{rootTerm};
+ghost use Rattle.integers.specs.ListSum.{All};
+ghost use Rattle.integers.specs.Units.{greatestDepth, detailLimit};
+ghost use Rattle.accuracy.specs.Outline.{pointsOf, contoursOf, edgeCount, contourEdges, outlineEdges};
+ghost use Rattle.accuracy.specs.Tile.{OnTile, EdgeOnTile};
+ghost use Rattle.accuracy.specs.OutlineTable.{edgeTable, outlineTable};
+ghost use Rattle.rasterize.specs.Added.{added, entryOf};
+ghost use Rattle.rasterize.specs.Nodes.{quarters, quarterNode, nodeAt};
+ghost use Rattle.rasterize.specs.Contribution.{ownPart, contribution};
+ghost use Rattle.rasterize.specs.Contour.{edgeOf};
+ghost use Rattle.rasterize.specs.Ready.{sumLimit, Spare, Ready, Splits, SmallDetails, Fits};
+use edge::Cell;
+use edge::Details;
+use edge::Edge;
+use edge::Span;
+use edge::Walk;
+
+// The quarters of a cell.
+const QUARTERS: usize = 4;
+
+// 01's step is 1/256 pixel.
+const STEPS_PER_PIXEL: usize = 256;
+
+// A cell of the quadtree: by its level and numbers, which say where its details stand in the table, and its square, which says where it lies.
+pub struct Node {
+    pub level: usize,
+    pub x: usize,
+    pub y: usize,
+    pub square: Cell,
+}
+
+// Quarter q of a cell: 0 and 1 are the upper two, 0 and 2 those on the left.
+fn quarter_of(c: Node, q: usize) -> Node
+    requires { ⌜ Splits c × (q < quarters) ⌝ }
+    ensures { λ r. ⌜ r ≡ quarterNode c q ⌝ }
+{
+    let half = edge::half_of(c.square.width);
+    Node {
+        level: c.level + 1,
+        x: 2 * c.x + q % 2,
+        y: 2 * c.y + q / 2,
+        square: Cell {
+            left: c.square.left + (q % 2) as i64 * half,
+            top: c.square.top + (q / 2) as i64 * half,
+            width: half,
+        },
+    }
+}
+
+// Adds x, or takes it out where the sign is -1, at one entry.
+fn add_at(table: &mut [i64], i: usize, sign: i64, x: i64)
+    requires { ⌜ (i < length (now table)) × Within (pos sumLimit) (getD (now table) i (pos 0)) × Within (pos detailLimit) x × Within (pos 1) sign ⌝ }
+    ensures { λ _. ⌜ now (table .exit) ≡ set (now (table .entry)) i (getD (now (table .entry)) i (pos 0) +ℤ sign *ℤ x) ⌝ }
+{
+    table[i] = table[i] + sign * x;
+}
+
+// Adds the details w, or takes them out where the sign is -1, at the three entries from `first` on.
+fn add_details(table: &mut [i64], first: usize, sign: i64, w: Details)
+    requires { ⌜ first + 2 < length (now table) × Spare (now table) 1 × SmallDetails w × Within (pos 1) sign ⌝ }
+    ensures { λ _. ⌜ now (table .exit) ≡ added (now (table .entry)) (λ i. sign *ℤ ownPart w first i) ⌝ }
+{
+    add_at(table, first, sign, w.h);
+    add_at(table, first + 1, sign, w.v);
+    add_at(table, first + 2, sign, w.d);
+}
+
+// The whole tile of side 2^depth, which is the cell of level 0.
+fn tile_of(depth: usize) -> Node
+    requires { ⌜ depth ≤ greatestDepth ⌝ }
+    ensures { λ r. ⌜ r ≡ nodeAt depth 0 0 0 ⌝ }
+{
+    Node {
+        level: 0,
+        x: 0,
+        y: 0,
+        square: Cell {
+            left: 0,
+            top: 0,
+            width: (STEPS_PER_PIXEL * haar::cells_across(depth)) as i64,
+        },
+    }
+}
+
+// The edge's term of the signed area.
+fn root_term(e: Edge) -> i64
+    requires { ⌜ Measured e ⌝ }
+    ensures { λ r. ⌜ r ≡ rootTerm e ⌝ }
+{
+    e.x0 * e.y1 - e.x1 * e.y0
+}
+
+// Adds the walk's edge to a cell, and to those of its quarters inside which some part of it lies, `left` levels in all; takes it out where the sign
+// is -1. `span` has the steps inside the cell.
+fn add_node(table: &mut [i64], walk: Walk, sign: i64, c: Node, span: Span, left: usize)
+    requires { ⌜ (1 ≤ left) × Ready (now table) (walk .edge) left c × IsWalk walk × (span ≡ spanOf (walk .x) (walk .y) (c .square) (walk .steps)) × Within (pos 1) sign ⌝ }
+    ensures { λ _. ⌜ now (table .exit) ≡ added (now (table .entry)) (λ i. sign *ℤ contribution (walk .edge) left c i) ⌝ }
+{
+    let w = edge::details_over(walk, c.square, span);
+    add_details(table, haar::first_detail(c.level, c.x, c.y), sign, w);
+    if left > 1 {
+        for q in 0..QUARTERS {
+            let quarter = quarter_of(c, q);
+            let inside = edge::span_in(walk, quarter.square);
+            if inside.first < inside.last {
+                add_node(table, walk, sign, quarter, inside, left - 1);
+            }
+        }
+    }
+}
+
+// Adds an edge to the table of the tile of side 2^depth, or takes it out where the sign is -1.
+pub fn add_edge(table: &mut [i64], e: Edge, sign: i64, depth: usize)
+    requires { ⌜ Fits (now table) depth 1 × EdgeOnTile depth e × Within (pos 1) sign ⌝ }
+    ensures { λ _. ⌜ now (table .exit) ≡ added (now (table .entry)) (λ i. sign *ℤ entryOf depth (edgeTable depth e) i) ⌝ }
+{
+    add_at(table, 0, sign, root_term(e));
+    if depth > 0 {
+        let walk = edge::walk_of(e);
+        let tile = tile_of(depth);
+        let span = edge::span_in(walk, tile.square);
+        add_node(table, walk, sign, tile, span, depth);
+    }
+}
+
+// The edge from point k of a contour's n points to the next one; from the last, to the first.
+fn edge_from(points: &[i64], n: usize, k: usize) -> Edge
+    requires { ⌜ (k < n) × (2 * n ≤ length (now points)) ⌝ }
+    ensures { λ r. ⌜ r ≡ edgeOf (now (points .entry)) n k ⌝ }
+{
+    let next = if k + 1 < n { k + 1 } else { 0 };
+    Edge {
+        x0: points[2 * k],
+        y0: points[2 * k + 1],
+        x1: points[2 * next],
+        y1: points[2 * next + 1],
+    }
+}
+
+// Adds the edges of a contour, given by its own points.
+pub fn add_contour(table: &mut [i64], points: &[i64], sign: i64, depth: usize)
+    requires { ⌜ Fits (now table) depth (length (now points) / 2) × All (OnTile depth) (pointsOf (now points)) × Within (pos 1) sign ⌝ }
+    ensures { λ _. ⌜ now (table .exit) ≡ added (now (table .entry)) (λ i. sign *ℤ entryOf depth (outlineTable depth (contourEdges (pointsOf (now (points .entry))))) i) ⌝ }
+{
+    let n = points.len() / 2;
+    for k in 0..n {
+        add_edge(table, edge_from(points, n, k), sign, depth);
+    }
+}
+
+// Adds the contours of an outline: each is the run of points that begins where the one before ended.
+pub fn add_outline(table: &mut [i64], points: &[i64], counts: &[u32], sign: i64, depth: usize)
+    requires { ⌜ Fits (now table) depth (edgeCount (now counts)) × (2 * edgeCount (now counts) ≤ length (now points)) × All (All (OnTile depth)) (contoursOf (now counts) (now points)) × Within (pos 1) sign ⌝ }
+    ensures { λ _. ⌜ now (table .exit) ≡ added (now (table .entry)) (λ i. sign *ℤ entryOf depth (outlineTable depth (outlineEdges (contoursOf (now (counts .entry)) (now (points .entry))))) i) ⌝ }
+{
+    let mut start = 0;
+    for k in 0..counts.len() {
+        let end = start + 2 * counts[k] as usize;
+        add_contour(table, &points[start..end], sign, depth);
+        start = end;
+    }
+}
