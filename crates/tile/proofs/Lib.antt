@@ -1,0 +1,15 @@
+-- What the functions' proofs share.
+
+-- the questions, one after the other
+pub mod Asking
+pub mod LevelFirst
+-- one test and then another
+pub mod Conjunction
+-- a test of every element of a slice
+pub mod Every
+-- the counts' sum
+pub mod CountsSum
+-- the product of a side with itself
+pub mod Square
+-- from a cleared table to an outline's
+pub mod Building

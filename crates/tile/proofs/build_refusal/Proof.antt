@@ -1,0 +1,125 @@
+-- Question by question.
+use mathlib.Core.Path.{_≡_, sym, _∙_, ap, subst⁻¹}
+use mathlib.Core.Bool.{_&&_}
+use mathlib.Core.List.{List}
+use Prim.Native.Nat.{ℕ, _*_, _<_, _≤_}
+use native.Mathlib.Omega.{arith}
+use lib.IntN.{pos, _*ℤ_}
+use lib.Signed.{leZ}
+use mir.Syntax.{w64}
+use mir.Val.{SFits, toZ}
+use mir.Facts.{toZ-pos}
+use borrow.Author.Needs.{needs}
+use borrow.Author.Tests.{le-leb, lt-leb, eq-eqb, ne-eqb, not-false}
+use Rattle.integers.specs.Units.{stepsPerPixel, greatestSide, mostEdges}
+use Rattle.integers.specs.Machine.{known}
+use Rattle.accuracy.specs.Outline.{edgeCount}
+use Rattle.tile.specs.Questions.{Question, every, question6, buildingQuestions}
+use Rattle.tile.specs.Laws.Sides.{side-le}
+use Rattle.tile.proofs.Asking.{After, none-asked, no-at, yes-at, refused, passed}
+use Rattle.tile.proofs.CountsSum.{edges-within, edges-over, capped-within}
+use Rattle.tile.proofs.build_refusal.Statement.{statement}
+use Rattle.tile.proofs.build_refusal.Tie as tie
+
+abbrev questions : tie.Start → List Question
+questions s = buildingQuestions (s .args .side) (s .args .points .now) (s .args .counts .now) (s .args .table .now)
+
+-- ---- questions 1, 2 and 4
+after-1 : (c : tie.Else1) → After (questions (c .before .before .before)) 1
+after-1 c = passed (none-asked _) (c .before .is-side .ensures) (c .if1 .left)
+
+after-2 : (c : tie.Else2) → After (questions (c .before .before .before .before .before)) 2
+after-2 c = passed (after-1 (c .before .before)) (c .before .is-table .ensures) (c .if2 .left)
+
+after-3 : (c : tie.Else3) → After (questions (c .before .before .before .before .before .before .before)) 3
+after-3 c = passed (after-2 (c .before .before)) (c .before .are-counts .ensures) (c .if3 .left)
+
+returns : tie.Need-returns
+returns c = refused (none-asked (questions (c .before .before .before))) (c .before .is-side .ensures) (c .if1 .taken)
+
+side-few : (c : tie.Else1) → c .before .before .before .args .side ≤ greatestSide
+side-few c = side-le _ (sym (c .before .is-side .ensures) ∙ not-false _ (c .if1 .left))
+
+is-table-requires : tie.Need-is-table-requires
+is-table-requires c κs = side-few c
+
+returns-2 : tie.Need-returns-2
+returns-2 c = refused (after-1 (c .before .before)) (c .before .is-table .ensures) (c .if2 .taken)
+
+returns-3 : tie.Need-returns-3
+returns-3 c = refused (after-2 (c .before .before)) (c .before .are-counts .ensures) (c .if3 .taken)
+
+-- ---- question 5: the sum is at most the most edges exactly where what `edges_of` found is
+module _ (c : tie.After-edges-of) where
+  abbrev start : tie.Start
+  start = c .before .before .before .before .before .before .before .before
+
+  abbrev edges : ℕ
+  edges = edgeCount (start .args .counts .now)
+
+  few : c .edges-of .result ≤ mostEdges → edges ≤ mostEdges
+  few h = edges-within _ (omega (arith, c .edges-of .ensures))
+
+  many : mostEdges < c .edges-of .result → mostEdges < edges
+  many h = edges-over _ (omega (arith, c .edges-of .ensures))
+
+after-4 : (c : tie.Else4) → After (questions (start (c .before))) 4
+after-4 c = yes-at (after-3 (c .before .before)) (le-leb (edges (c .before)) mostEdges (few (c .before) (c .if4 .left)))
+
+edges-are : (c : tie.Else4) → c .before .edges-of .result ≡ edges (c .before)
+edges-are c = c .before .edges-of .ensures ∙ capped-within _ (few (c .before) (c .if4 .left))
+
+returns-4 : tie.Need-returns-4
+returns-4 c = no-at (after-3 (c .before .before)) (lt-leb (edges (c .before)) mostEdges (many (c .before) (c .if4 .taken)))
+
+-- ---- question 3
+after-5 : (c : tie.Else5) → After (questions (start (c .before .before))) 5
+after-5 c = yes-at (after-4 (c .before)) (eq-eqb _ _ (c .if5 .left ∙ ap (λ n. 2 * n) (edges-are (c .before))))
+
+returns-5 : tie.Need-returns-5
+returns-5 c = no-at (after-4 (c .before)) (ne-eqb _ _ (λ e. c .if5 .taken (e ∙ ap (λ n. 2 * n) (sym (edges-are (c .before))))))
+
+-- ---- question 6: the greatest coordinate fits
+module _ (c : tie.Else5) where
+  abbrev side : ℕ
+  side = start (c .before .before) .args .side
+
+  few-pixels : side ≤ greatestSide
+  few-pixels = side-few (c .before .before .before .before .before .before .before)
+
+  limit-is : pos stepsPerPixel *ℤ toZ w64 side ≡ pos (stepsPerPixel * side)
+  limit-is = ap (λ z. pos stepsPerPixel *ℤ z) (toZ-pos w64 (omega (arith, few-pixels)))
+
+  limit-fits : SFits w64 (pos stepsPerPixel *ℤ toZ w64 side)
+  limit-fits = subst⁻¹ (SFits w64) limit-is (record { sfits = omega (arith, few-pixels) })
+
+asked-6 : (c : tie.After-all-within) → c .all-within .result ≡ question6 (side (c .before)) (start (c .before .before .before) .args .points .now) .answer
+asked-6 c =
+    let points = start (c .before .before .before) .args .points .now in
+    c .all-within .ensures ∙ ap (λ high. every (λ z. leZ (pos 0) z && leZ z high) points) (known (limit-fits (c .before)) (limit-is (c .before)))
+
+returns-6 : tie.Need-returns-6
+returns-6 c = refused (after-5 (c .before .before)) (asked-6 (c .before)) (c .if6 .taken)
+
+returns-7 : tie.Need-returns-7
+returns-7 c = sym (passed (after-5 (c .before .before)) (asked-6 (c .before)) (c .if6 .left) .same)
+
+pub build-refusal-spec : {M : Type 1} → statement M
+build-refusal-spec =
+    tie.close
+    (tie.spec
+    (λ c κs. search needs)
+    returns
+    is-table-requires
+    returns-2
+    (λ c κs. search needs)
+    returns-3
+    (λ c κs. search needs)
+    returns-4
+    (λ c. search needs)
+    returns-5
+    (λ c. search needs)
+    limit-fits
+    (λ c κs. search needs)
+    returns-6
+    returns-7)

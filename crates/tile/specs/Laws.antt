@@ -1,0 +1,18 @@
+-- How it is proved: one idea a file, in this order.
+
+-- what there is after a call
+pub mod IfDone
+-- what a test says; the first "no" of a list of questions
+pub mod Tests
+pub mod FirstNo
+-- a side and its depth
+pub mod Sides
+-- what is not refused can be drawn
+pub mod Answers
+-- so what is known of an accepted outline, and of the table that building leaves
+pub mod Accepted
+pub mod BuiltTable
+-- a level and a table that no drawing call refuses
+pub mod DrawnTable
+-- a given outline's table and pictures, by computing them
+pub mod Computed

@@ -1,0 +1,62 @@
+-- What is known of an accepted outline: "An outline is accepted where every question for building is answered yes."
+--
+-- Main results
+--   Accepted, accepted           what the answers say of the side, the table and the outline
+--   accepted-edges               its edges are as many as the counts' sum
+--   accepted-few                 and so no more than the most
+--   accepted-accurate            what is drawn of its table is near its exact areas
+use mathlib.Core.Path.{_≡_, _∙_, ap, subst}
+use mathlib.Core.List.{List}
+use Prim.Native.Nat.{ℕ, _*_, _-_, _^_, _≤_}
+use native.Mathlib.Omega.{arith}
+use lib.ListN.{length}
+use lib.IntN.{ℤ, pos}
+use lib.Signed.{_≤ℤ_}
+use Rattle.integers.specs.Units.{stepsPerPixel, mostEdges}
+use Rattle.integers.specs.ListSum.{All}
+use Rattle.accuracy.specs.Outline.{contoursOf, edgeCount}
+use Rattle.accuracy.specs.Tile.{cellWidth}
+use Rattle.accuracy.specs.Accurate.{Accurate}
+use Rattle.accuracy.specs.Theorem.{outline-accurate}
+use Rattle.accuracy.specs.Laws.Coordinates.{contoursOf-count, OnSide, contoursOf-on-tile}
+use Rattle.tile.specs.Questions.{Yes, depthOf, question1}
+use Rattle.tile.specs.Outcomes.{edgesOf, buildRefusal}
+use Rattle.tile.specs.Refusals.{building-refusals, question2-means, question3-means, question5-means, question6-means}
+use Rattle.tile.specs.Laws.Sides.{side-power}
+
+pub record Accepted (side : ℕ) (points : List ℤ) (counts : List ℕ) (table : List ℤ) : Type 0 where
+  pub is-side : Yes (question1 side)
+  pub table-length : length table ≡ side * side
+  pub few-edges : edgeCount counts ≤ mostEdges
+  pub points-length : length points ≡ 2 * edgeCount counts
+  pub on-tile : All (OnSide (depthOf side)) points
+
+-- question 6's limit is the tile's width
+tile-width : (side : ℕ) → Yes (question1 side) → stepsPerPixel * side ≡ cellWidth (depthOf side) 0
+tile-width side y =
+    let whole : depthOf side ≡ depthOf side - 0 = omega arith in
+    ap (λ s. stepsPerPixel * s) (side-power side y) ∙ ap (λ k. stepsPerPixel * 2 ^ k) whole
+
+pub accepted : (side : ℕ) (points : List ℤ) (counts : List ℕ) (table : List ℤ) → buildRefusal side points counts table ≡ 0
+    → Accepted side points counts table
+accepted side points counts table done =
+    let yes = building-refusals side points counts table .accepted .0 done in
+    record {
+      is-side = yes .0;
+      table-length = question2-means side table .0 (yes .1 .0);
+      few-edges = question5-means counts .0 (yes .1 .1 .1 .0);
+      points-length = question3-means points counts .0 (yes .1 .1 .1 .1 .0);
+      on-tile = subst (λ (w : ℕ). All (λ z. (pos 0 ≤ℤ z) × (z ≤ℤ pos w)) points) (tile-width side (yes .0))
+          (question6-means side points .0 (yes .1 .1 .1 .1 .1 .0));
+    }
+
+module _ {side : ℕ} {points : List ℤ} {counts : List ℕ} {table : List ℤ} (a : Accepted side points counts table) where
+  pub accepted-edges : length (edgesOf points counts) ≡ edgeCount counts
+  accepted-edges = contoursOf-count counts points (omega (arith, a .points-length))
+
+  pub accepted-few : length (edgesOf points counts) ≤ mostEdges
+  accepted-few = omega (arith, accepted-edges, a .few-edges)
+
+  pub accepted-accurate : Accurate (depthOf side) (edgesOf points counts)
+  accepted-accurate =
+      outline-accurate (depthOf side) (contoursOf counts points) (contoursOf-on-tile (depthOf side) counts points (a .on-tile)) .accurate

@@ -1,0 +1,76 @@
+-- What each call answers, and what each buffer holds afterwards, for every input. The number in an answer is 0 where the work is done, which is ours:
+-- 01's numbers begin at 1. "A refusal carries its number and the edge count or figure 0; tables and pictures keep what they held."
+--
+-- Definitions
+--   ifDone number a b                        a where the number is 0, and else b
+--   edgesOf points counts                    the edges of an outline
+--   tableOf side points counts               the table of an outline: its entries, in order
+--   buildRefusal, buildResult, buildTable    building: the number; the number and the edge count; the table afterwards
+--   drawRefusal                              pictures of figures or of greys: the number
+--   figuresPicture, greysPicture             the picture afterwards
+--   pictureIndex                             where a cell stands in a picture
+--   cellRefusal, cellResult                  one cell: the number; the number and the figure
+use mathlib.Core.List.{List}
+use Prim.Native.Nat.{ℕ, zero, suc, _+_, _*_, _^_}
+use lib.ListN.{length}
+use lib.IntN.{ℤ, pos}
+use Rattle.edge.specs.declared.Edge.{Edge}
+use Rattle.haar.specs.Entries.{entries}
+use Rattle.haar.specs.Greys.{greyOf}
+use Rattle.haar.specs.Plane.{dimensions, figureIn, pictureIn}
+use Rattle.accuracy.specs.Outline.{contoursOf, edgeCount, outlineEdges}
+use Rattle.accuracy.specs.OutlineTable.{outlineTable}
+use Rattle.tile.specs.declared.Built.{Built}
+use Rattle.tile.specs.declared.CellFigure.{CellFigure}
+use Rattle.tile.specs.Questions.{depthOf, firstNo, buildingQuestions, drawingQuestions, cellQuestions}
+
+abbrev pub ifDone : {A : Type 0} → ℕ → A → A → A
+ifDone zero a b = a
+ifDone (suc n) a b = b
+
+-- ---- building
+abbrev pub edgesOf : List ℤ → List ℕ → List Edge
+edgesOf points counts = outlineEdges (contoursOf counts points)
+
+-- `outlineTable` has for each detail of each cell the sum over the edges of the exact Haar line integral, each edge's rounded on its own, and the
+-- signed area for the root; `entries` puts them in the table's order (`TableEntries`).
+abbrev pub tableOf : ℕ → List ℤ → List ℕ → List ℤ
+tableOf side points counts = entries dimensions (depthOf side) (outlineTable (depthOf side) (edgesOf points counts))
+
+abbrev pub buildRefusal : ℕ → List ℤ → List ℕ → List ℤ → ℕ
+buildRefusal side points counts table = firstNo (buildingQuestions side points counts table)
+
+-- "Building reports the edge count, the sum of the counts"
+abbrev pub buildResult : ℕ → List ℤ → List ℕ → List ℤ → Built
+buildResult side points counts table = record {
+  number = buildRefusal side points counts table;
+  edges = ifDone (buildRefusal side points counts table) (edgeCount counts) 0;
+}
+
+abbrev pub buildTable : ℕ → List ℤ → List ℕ → List ℤ → List ℤ
+buildTable side points counts table = ifDone (buildRefusal side points counts table) (tableOf side points counts) table
+
+-- ---- pictures of figures and of greys
+abbrev pub drawRefusal : ℕ → ℕ → List ℤ → ℕ → ℕ
+drawRefusal side level table size = firstNo (drawingQuestions side level table size)
+
+-- the Haar sums of the table (`DrawnFigures`)
+abbrev pub figuresPicture : ℕ → ℕ → List ℤ → List ℤ → List ℤ
+figuresPicture side level table picture = ifDone (drawRefusal side level table (length picture)) (pictureIn (λ f. f) table level) picture
+
+abbrev pub greysPicture : ℕ → ℕ → List ℤ → List ℕ → List ℕ
+greysPicture side level table picture = ifDone (drawRefusal side level table (length picture)) (pictureIn (greyOf side) table level) picture
+
+-- where cell (cx, cy) stands in a picture: "row by row from the top left"
+abbrev pub pictureIndex : ℕ → ℕ → ℕ → ℕ
+pictureIndex level cx cy = cy * 2 ^ level + cx
+
+-- ---- one cell
+abbrev pub cellRefusal : ℕ → ℕ → ℕ → ℕ → List ℤ → ℕ
+cellRefusal side level cx cy table = firstNo (cellQuestions side level cx cy table)
+
+abbrev pub cellResult : ℕ → ℕ → ℕ → ℕ → List ℤ → CellFigure
+cellResult side level cx cy table = record {
+  number = cellRefusal side level cx cy table;
+  figure = ifDone (cellRefusal side level cx cy table) (figureIn table level cx cy) (pos 0);
+}

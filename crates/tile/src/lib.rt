@@ -1,0 +1,345 @@
+// A letter's outline into a table of Haar coefficients, and pictures of it at every halving: the four public calls.
+//
+// None asks anything of its caller. Each asks 01's questions of what it is given, in 01's order; the first "no" decides, and its number is the
+// answer. Where all are answered yes the answer is 0 and the work is done. A refused call changes nothing.
+ghost use mathlib.Core.Path.{_≡_};
+ghost use Prim.Native.Nat.{_+_, _*_, _<_, _≤_};
+ghost use lib.ListN.{length, replicate};
+ghost use lib.IntN.{pos};
+ghost use lib.Dec.{leb};
+ghost use lib.Signed.{leZ};
+ghost use mathlib.Core.Bool.{_&&_};
+ghost use Rattle.integers.specs.Units.{greatestSide, greatestDepth, fewestPoints, mostPoints};
+ghost use Rattle.tile.specs.Questions.{every, depthOf, firstNo, question1, question2, question4, question7, question8, question9, question10};
+ghost use Rattle.tile.specs.Outcomes.{buildRefusal, buildResult, buildTable, drawRefusal, figuresPicture, greysPicture, cellRefusal, cellResult};
+ghost use Rattle.tile.specs.Faithful.{Faithful};
+ghost use Rattle.tile.specs.Inner.{cappedEdges, levelQuestions};
+
+// What building answers: the number of its refusal, or 0, and the edge count.
+pub struct Built {
+    pub number: u32,
+    pub edges: u32,
+}
+
+// What is answered for one cell: the number of its refusal, or 0, and its figure.
+pub struct CellFigure {
+    pub number: u32,
+    pub figure: i64,
+}
+
+// Tiles are 1 to 64 pixels wide.
+const GREATEST_SIDE: u32 = 64;
+
+// 01's step is 1/256 pixel.
+const STEPS_PER_PIXEL: i64 = 256;
+
+// A contour has at least 3 points: fewer enclose nothing.
+const FEWEST_POINTS: u32 = 3;
+
+// And at most as many as an outline may have.
+const MOST_POINTS: u32 = 1024;
+
+// With no more edges than this, every grey is at most one from that of the exact area.
+const MOST_EDGES: usize = 1024;
+
+// 2^40: a table's entries lie within it either way, so that figures stay well within 64 bits.
+const ENTRY_LIMIT: i64 = 1 << 40;
+
+// The answer where the work is done.
+const DONE: u32 = 0;
+
+// The numbers of refusals. Question 1: is the side one of a tile?
+const NO_SIDE: u32 = 1;
+
+// Question 2: has the table side × side entries?
+const NO_TABLE: u32 = 2;
+
+// Question 3: are there two coordinates for each point that the counts count?
+const NO_POINTS: u32 = 3;
+
+// Question 4: is every count one of a contour?
+const NO_COUNT: u32 = 4;
+
+// Question 5: is the counts' sum at most the most edges?
+const NO_SUM: u32 = 5;
+
+// Question 6: is every coordinate on the tile?
+const NO_COORDINATE: u32 = 6;
+
+// Question 7: does the tile have the level?
+const NO_LEVEL: u32 = 7;
+
+// Question 8: has the picture as many places as the level has cells?
+const NO_PICTURE: u32 = 8;
+
+// Question 9: is every entry of the table in range?
+const NO_RANGE: u32 = 9;
+
+// Question 10: does the level have the cell?
+const NO_CELL: u32 = 10;
+
+// ---- the questions
+
+// Question 1: exactly one bit of the side is set, and it is no greater than the greatest.
+fn is_side(side: u32) -> bool
+    ensures { λ b. ⌜ b ≡ question1 side .answer ⌝ }
+{
+    u32::count_ones(side) == 1 && side <= GREATEST_SIDE
+}
+
+// The depth of a tile: the zeros below the side's one bit.
+fn depth_of(side: u32) -> usize
+    ensures { λ r. ⌜ r ≡ depthOf side ⌝ }
+{
+    u32::trailing_zeros(side) as usize
+}
+
+// Question 2.
+fn is_table(side: u32, table: &[i64]) -> bool
+    requires { ⌜ side ≤ greatestSide ⌝ }
+    ensures { λ b. ⌜ b ≡ question2 side (now (table .entry)) .answer ⌝ }
+{
+    table.len() == (side * side) as usize
+}
+
+// Is z from low to high?
+fn is_within(z: i64, low: i64, high: i64) -> bool
+    ensures { λ b. ⌜ b ≡ (leZ low z && leZ z high) ⌝ }
+{
+    low <= z && z <= high
+}
+
+// Is every number from low to high? Questions 6 and 9.
+fn all_within(numbers: &[i64], low: i64, high: i64) -> bool
+    ensures { λ b. ⌜ b ≡ every (λ z. leZ low z && leZ z high) (now (numbers .entry)) ⌝ }
+{
+    let mut i = 0;
+    while i < numbers.len() {
+        if !is_within(numbers[i], low, high) {
+            return false;
+        }
+        i += 1;
+    }
+    true
+}
+
+// Is n a contour's number of points?
+fn is_count(n: u32) -> bool
+    ensures { λ b. ⌜ b ≡ (leb fewestPoints n && leb n mostPoints) ⌝ }
+{
+    FEWEST_POINTS <= n && n <= MOST_POINTS
+}
+
+// Question 4.
+fn are_counts(counts: &[u32]) -> bool
+    ensures { λ b. ⌜ b ≡ question4 (now (counts .entry)) .answer ⌝ }
+{
+    let mut i = 0;
+    while i < counts.len() {
+        if !is_count(counts[i]) {
+            return false;
+        }
+        i += 1;
+    }
+    true
+}
+
+// The counts' sum, or one more than the most edges where it is greater: there may be any number of counts, and their sum may pass what a word holds.
+fn edges_of(counts: &[u32]) -> usize
+    ensures { λ r. ⌜ r ≡ cappedEdges (now (counts .entry)) ⌝ }
+{
+    let mut sum = 0;
+    let mut i = 0;
+    while i < counts.len() {
+        sum += counts[i] as usize;
+        if sum > MOST_EDGES {
+            return MOST_EDGES + 1;
+        }
+        i += 1;
+    }
+    sum
+}
+
+// Question 7.
+fn is_level(side: u32, level: u32) -> bool
+    ensures { λ b. ⌜ b ≡ question7 side level .answer ⌝ }
+{
+    level as usize <= depth_of(side)
+}
+
+// Question 8, `size` being how many places the picture has.
+fn is_picture(level: u32, size: usize) -> bool
+    requires { ⌜ level ≤ greatestDepth ⌝ }
+    ensures { λ b. ⌜ b ≡ question8 level size .answer ⌝ }
+{
+    let n = haar::cells_across(level as usize);
+    size == n * n
+}
+
+// Question 9, which looks at the whole table whatever is drawn of it.
+fn in_range(table: &[i64]) -> bool
+    ensures { λ b. ⌜ b ≡ question9 (now (table .entry)) .answer ⌝ }
+{
+    all_within(table, -ENTRY_LIMIT, ENTRY_LIMIT)
+}
+
+// Question 10.
+fn is_cell(level: u32, cx: u32, cy: u32) -> bool
+    requires { ⌜ level ≤ greatestDepth ⌝ }
+    ensures { λ b. ⌜ b ≡ question10 level cx cy .answer ⌝ }
+{
+    let n = haar::cells_across(level as usize);
+    (cx as usize) < n && (cy as usize) < n
+}
+
+// Building's questions: the first "no", or 0.
+fn build_refusal(side: u32, points: &[i64], counts: &[u32], table: &[i64]) -> u32
+    ensures { λ r. ⌜ r ≡ buildRefusal side (now (points .entry)) (now (counts .entry)) (now (table .entry)) ⌝ }
+{
+    if !is_side(side) {
+        return NO_SIDE;
+    }
+    if !is_table(side, table) {
+        return NO_TABLE;
+    }
+    if !are_counts(counts) {
+        return NO_COUNT;
+    }
+    let edges = edges_of(counts);
+    if edges > MOST_EDGES {
+        return NO_SUM;
+    }
+    if points.len() != 2 * edges {
+        return NO_POINTS;
+    }
+    if !all_within(points, 0, STEPS_PER_PIXEL * side as i64) {
+        return NO_COORDINATE;
+    }
+    DONE
+}
+
+// The questions that every drawing call asks first.
+fn level_refusal(side: u32, level: u32, table: &[i64]) -> u32
+    ensures { λ r. ⌜ r ≡ firstNo (levelQuestions side level (now (table .entry))) ⌝ }
+{
+    if !is_side(side) {
+        return NO_SIDE;
+    }
+    if !is_table(side, table) {
+        return NO_TABLE;
+    }
+    if !is_level(side, level) {
+        return NO_LEVEL;
+    }
+    DONE
+}
+
+// The questions of pictures and greys.
+fn draw_refusal(side: u32, level: u32, table: &[i64], size: usize) -> u32
+    ensures { λ r. ⌜ r ≡ drawRefusal side level (now (table .entry)) size ⌝ }
+{
+    let number = level_refusal(side, level, table);
+    if number != DONE {
+        return number;
+    }
+    if !is_picture(level, size) {
+        return NO_PICTURE;
+    }
+    if !in_range(table) {
+        return NO_RANGE;
+    }
+    DONE
+}
+
+// The questions of one cell.
+fn cell_refusal(side: u32, level: u32, cx: u32, cy: u32, table: &[i64]) -> u32
+    ensures { λ r. ⌜ r ≡ cellRefusal side level cx cy (now (table .entry)) ⌝ }
+{
+    let number = level_refusal(side, level, table);
+    if number != DONE {
+        return number;
+    }
+    if !is_cell(level, cx, cy) {
+        return NO_CELL;
+    }
+    if !in_range(table) {
+        return NO_RANGE;
+    }
+    DONE
+}
+
+// ---- the four calls
+
+// Sets every entry to 0.
+fn clear(table: &mut [i64])
+    ensures { λ _. ⌜ now (table .exit) ≡ replicate (length (now (table .entry))) (pos 0) ⌝ }
+{
+    for i in 0..table.len() {
+        table[i] = 0;
+    }
+}
+
+// Builds the table of an outline on a tile: `points` has x and y of each point in turn, in 1/256 pixel, and `counts` how many points each contour
+// has. The answer is 0 and the edge count; whatever the table held before, it holds the outline's afterwards. Or it is the number of the first
+// question that is answered no, and 0, and the table is as it was.
+pub fn build(side: u32, points: &[i64], counts: &[u32], table: &mut [i64]) -> Built
+    ensures { λ r. ⌜ r ≡ buildResult side (now (points .entry)) (now (counts .entry)) (now (table .entry)) ⌝ }
+    ensures { λ _. ⌜ now (table .exit) ≡ buildTable side (now (points .entry)) (now (counts .entry)) (now (table .entry)) ⌝ }
+    ensures { λ _. ⌜ Faithful side (now (points .entry)) (now (counts .entry)) (now (table .entry)) (now (table .exit)) ⌝ }
+    ensures { λ _. ⌜ (now (points .exit) ≡ now (points .entry)) × (now (counts .exit) ≡ now (counts .entry)) ⌝ }
+{
+    let number = build_refusal(side, points, counts, table);
+    if number != DONE {
+        return Built { number, edges: 0 };
+    }
+    clear(table);
+    rasterize::add_outline(table, points, counts, 1, depth_of(side));
+    Built {
+        number: DONE,
+        edges: edges_of(counts) as u32,
+    }
+}
+
+// Draws the figures of a level. The answer is 0, and the picture has them row by row, whatever it held before. Or it is the number of the first
+// question that is answered no, and the picture is as it was.
+pub fn figures(side: u32, level: u32, table: &[i64], picture: &mut [i64]) -> u32
+    ensures { λ r. ⌜ r ≡ drawRefusal side level (now (table .entry)) (length (now (picture .entry))) ⌝ }
+    ensures { λ _. ⌜ now (picture .exit) ≡ figuresPicture side level (now (table .entry)) (now (picture .entry)) ⌝ }
+    ensures { λ _. ⌜ now (table .exit) ≡ now (table .entry) ⌝ }
+{
+    let number = draw_refusal(side, level, table, picture.len());
+    if number == DONE {
+        haar::figures(table, level as usize, picture);
+    }
+    number
+}
+
+// Draws the greys of a level. The answer is 0, and the picture has them row by row, whatever it held before. Or it is the number of the first
+// question that is answered no, and the picture is as it was.
+pub fn greys(side: u32, level: u32, table: &[i64], picture: &mut [u8]) -> u32
+    ensures { λ r. ⌜ r ≡ drawRefusal side level (now (table .entry)) (length (now (picture .entry))) ⌝ }
+    ensures { λ _. ⌜ now (picture .exit) ≡ greysPicture side level (now (table .entry)) (now (picture .entry)) ⌝ }
+    ensures { λ _. ⌜ now (table .exit) ≡ now (table .entry) ⌝ }
+{
+    let number = draw_refusal(side, level, table, picture.len());
+    if number == DONE {
+        haar::greys(table, depth_of(side), level as usize, picture);
+    }
+    number
+}
+
+// The figure of one cell, the same that `figures` puts at cy × 2^level + cx. The answer is 0 and the figure, or the number of the first question that
+// is answered no, and 0.
+pub fn cell(side: u32, level: u32, cx: u32, cy: u32, table: &[i64]) -> CellFigure
+    ensures { λ r. ⌜ r ≡ cellResult side level cx cy (now (table .entry)) ⌝ }
+    ensures { λ _. ⌜ now (table .exit) ≡ now (table .entry) ⌝ }
+{
+    let number = cell_refusal(side, level, cx, cy, table);
+    if number != DONE {
+        return CellFigure { number, figure: 0 };
+    }
+    CellFigure {
+        number: DONE,
+        figure: haar::figure_at(table, level as usize, cx as usize, cy as usize),
+    }
+}
