@@ -16,9 +16,10 @@ use edge::Walk;
 use edge::comes_inside;
 use edge::details_in;
 use edge::walk_of;
-use integers::magnitude;
 use libc::STDIN_FILENO;
-use libc::STDOUT_FILENO;
+use vector_print::decimal;
+use vector_print::number;
+use vector_print::words;
 
 // 2^28: what a coordinate may be at most, and a width times an extent
 const LIMIT: i64 = 268435456;
@@ -80,7 +81,7 @@ fn show(x0: i64, y0: i64, x1: i64, y1: i64, left: i64, top: i64, half: i64) {
         let width = half + half;
         print_case(walk_of(Edge { x0, y0, x1, y1 }), Cell { left, top, width });
     } else {
-        io::write_all(STDOUT_FILENO, b"out of range\n");
+        words(b"out of range\n");
     }
 }
 
@@ -88,23 +89,14 @@ fn print_case(w: Walk, c: Cell)
     requires { ⌜ IsWalk w × Room (w .edge) c ⌝ }
 {
     let r = details_in(w, c);
-    print(r.h);
-    print(r.v);
-    print(r.d);
+    decimal(r.h);
+    number(r.v);
+    number(r.d);
     if comes_inside(w, c) {
-        io::write_all(STDOUT_FILENO, b"in\n");
+        words(b" in\n");
     } else {
-        io::write_all(STDOUT_FILENO, b"out\n");
+        words(b" out\n");
     }
-}
-
-// The number and a space.
-fn print(q: i64) {
-    if q < 0 {
-        io::write_all(STDOUT_FILENO, b"-");
-    }
-    io::print_decimal(STDOUT_FILENO, magnitude(q));
-    io::write_all(STDOUT_FILENO, b" ");
 }
 
 // ---- the cases, from standard input

@@ -2,7 +2,6 @@
 --
 -- Main results
 --   entries-blank, entries-set           noughts; an entry stored
---   zero-within                          0 is in range
 --   entries-drawable, entries-cell       each level can be drawn, and the cell at each place of it
 --   Part, entries-part                   the first places of a list, for the picture of a level
 use mathlib.Core.Path.{_≡_, refl, sym, _∙_, ap}
@@ -16,22 +15,18 @@ use lib.Seq.{length-take-le, getD-set-same, getD-set-other}
 use lib.Pow.{pow-pos}
 use lib.IntN.{ℤ, pos}
 use Rattle.integers.specs.Units.{greatestDepth, entryLimit}
-use Rattle.integers.specs.Order.{nonneg, pos-≤ℤ}
-use Rattle.integers.specs.Within.{Within, within-is, within-le, within-self}
+use Rattle.integers.specs.Within.{Within, within-is, within-zero}
 use Rattle.haar.specs.Cells.{children}
 use Rattle.haar.specs.Plane.{dimensions}
 use Rattle.haar.specs.Drawable.{InRange, Drawable, DrawableCell, DrawablePicture}
 use Rattle.haar.specs.Laws.Cells.{level-square}
 use Rattle.haar_vectors.specs.Entries.{Entries}
 
-pub zero-within : Within (pos entryLimit) (pos 0)
-zero-within = within-le (pos-≤ℤ (omega arith)) (within-self (nonneg 0))
-
 blank-in-range : (n : ℕ) → InRange (replicate n (pos 0))
 blank-in-range n = record {
   each = λ k. elim (decLt k n) [
-    | yes h ↦ within-is refl (sym (getD-replicate n k (pos 0) (pos 0) h)) zero-within
-    | no h ↦ within-is refl (sym (List·getD-eq-default (replicate n (pos 0)) (pos 0) (omega (arith, length-replicate n (pos 0))))) zero-within
+    | yes h ↦ within-is refl (sym (getD-replicate n k (pos 0) (pos 0) h)) (within-zero entryLimit)
+    | no h ↦ within-is refl (sym (List·getD-eq-default (replicate n (pos 0)) (pos 0) (omega (arith, length-replicate n (pos 0))))) (within-zero entryLimit)
   ];
 }
 

@@ -7,7 +7,7 @@ use super::table::GREATEST_DEPTH;
 use super::table::cells;
 use super::table::clear;
 use super::table::put;
-use libc::STDOUT_FILENO;
+use vector_print::words;
 
 // The line that is being read: its kind, which is its first byte; whether its first word goes on; the number that is being read; the place of the
 // next entry, or how many numbers of a cell there were, and the last three of them. And the depth of the last table.
@@ -145,7 +145,7 @@ fn end_position(mut r: Reader) -> Reader {
 
 fn print_byte(b: u8) {
     let text = [b];
-    io::write_all(STDOUT_FILENO, &text);
+    words(&text);
 }
 
 // A line of which no more than its kind is known.
@@ -192,7 +192,7 @@ fn show(table: &[i64], r: Reader)
         return refuse();
     }
     if kind != b'@' {
-        io::write_all(STDOUT_FILENO, b"\n");
+        words(b"\n");
         return show_table(table, depth);
     }
     if r.next != CELL_NUMBERS {

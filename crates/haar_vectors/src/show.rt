@@ -11,84 +11,25 @@ use haar::figure_at;
 use haar::figures;
 use haar::grey::grey_of;
 use haar::greys;
-use integers::magnitude;
 use libc::STDOUT_FILENO;
-
-// A line of more numbers has a checksum in their place.
-const SHORT: usize = 64;
-
-// A checksum takes the numbers of a line for digits to this base, and keeps the remainder by this modulus. Both are prime.
-const BASE: u64 = 1000003;
-
-const MODULUS: u64 = 1000000007;
-
-// A space and the number.
-fn print(q: i64) {
-    io::write_all(STDOUT_FILENO, b" ");
-    if q < 0 {
-        io::write_all(STDOUT_FILENO, b"-");
-    }
-    io::print_decimal(STDOUT_FILENO, magnitude(q));
-}
-
-fn print_index(i: usize) {
-    io::write_all(STDOUT_FILENO, b" ");
-    io::print_decimal(STDOUT_FILENO, i as u64);
-}
-
-// The checksum with one more number.
-fn mixed(sum: u64, q: i64) -> u64 {
-    let m = magnitude(q) % MODULUS;
-    if q < 0 {
-        (sum % MODULUS * BASE + (MODULUS - m)) % MODULUS
-    } else {
-        (sum % MODULUS * BASE + m) % MODULUS
-    }
-}
-
-// One number of a line of n.
-fn tell(n: usize, sum: u64, q: i64) -> u64 {
-    if n <= SHORT {
-        print(q);
-        return sum;
-    }
-    mixed(sum, q)
-}
+use vector_print::bytes;
+use vector_print::end;
+use vector_print::named;
+use vector_print::number;
+use vector_print::numbers;
+use vector_print::tell;
+use vector_print::words;
 
 fn begin(level: usize, name: &[u8]) {
     io::print_decimal(STDOUT_FILENO, level as u64);
-    io::write_all(STDOUT_FILENO, name);
-}
-
-fn end(n: usize, sum: u64) {
-    if SHORT < n {
-        io::write_all(STDOUT_FILENO, b" checksum ");
-        io::print_decimal(STDOUT_FILENO, sum);
-    }
-    io::write_all(STDOUT_FILENO, b"\n");
-}
-
-fn tell_numbers(numbers: &[i64]) {
-    let mut sum = 0;
-    for i in 0..numbers.len() {
-        sum = tell(numbers.len(), sum, numbers[i]);
-    }
-    end(numbers.len(), sum);
-}
-
-fn tell_bytes(bytes: &[u8]) {
-    let mut sum = 0;
-    for i in 0..bytes.len() {
-        sum = tell(bytes.len(), sum, bytes[i] as i64);
-    }
-    end(bytes.len(), sum);
+    words(name);
 }
 
 fn draw_figures(table: &[i64], level: usize, picture: &mut [i64])
     requires { ⌜ DrawablePicture (now table) level (length (now picture)) ⌝ }
 {
     figures(table, level, picture);
-    tell_numbers(picture);
+    numbers(picture);
 }
 
 fn tell_figures(table: &[i64], level: usize)
@@ -116,7 +57,7 @@ fn draw_greys(table: &[i64], depth: usize, level: usize, picture: &mut [u8])
     requires { ⌜ DrawablePicture (now table) level (length (now picture)) × (depth ≤ greatestDepth) ⌝ }
 {
     greys(table, depth, level, picture);
-    tell_bytes(picture);
+    bytes(picture);
 }
 
 fn tell_greys(table: &[i64], depth: usize, level: usize)
@@ -147,20 +88,19 @@ pub fn show_table(table: &[i64], depth: usize)
 }
 
 pub fn refuse() {
-    io::write_all(STDOUT_FILENO, b" refused\n");
+    words(b" refused\n");
 }
 
 fn print_cell(depth: usize, level: usize, x: usize, y: usize, figure: i64)
     requires { ⌜ depth ≤ greatestDepth ⌝ }
 {
-    print_index(level);
-    print_index(x);
-    print_index(y);
-    io::write_all(STDOUT_FILENO, b": figure");
-    print(figure);
-    io::write_all(STDOUT_FILENO, b" grey");
-    print(grey_of(figure, depth) as i64);
-    io::write_all(STDOUT_FILENO, b"\n");
+    named(b"", level as u64);
+    named(b"", x as u64);
+    named(b"", y as u64);
+    words(b": figure");
+    number(figure);
+    named(b" grey", grey_of(figure, depth) as u64);
+    words(b"\n");
 }
 
 pub fn show_cell(table: &[i64], depth: usize, level: usize, x: usize, y: usize)

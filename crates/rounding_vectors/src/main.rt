@@ -1,21 +1,14 @@
 // Runs `integers::div_round_half_away` as it is compiled, and prints each answer on a line. `stdout` has what it must print, worked out
 // another way: in exact fractions, of the two whole numbers around n / d the one at the smaller distance, and at equal distances the one of larger magnitude.
 use integers::div_round_half_away;
-use integers::magnitude;
-use libc::STDOUT_FILENO;
+use vector_print::decimal;
+use vector_print::words;
 
 fn show(n: i64, d: i64) {
     if d > 0 {
-        print(div_round_half_away(n, d));
-        io::write_all(STDOUT_FILENO, b"\n");
+        decimal(div_round_half_away(n, d));
+        words(b"\n");
     }
-}
-
-fn print(q: i64) {
-    if q < 0 {
-        io::write_all(STDOUT_FILENO, b"-");
-    }
-    io::print_decimal(STDOUT_FILENO, magnitude(q));
 }
 
 // Halves and thirds, both signs.

@@ -41,11 +41,11 @@ print-case-requires c κs =
     let walk = c .walk-of .ensures in
     (walk .1, room-is (toZ w64 (ofZ w64 (s .args .left))) (toZ w64 (ofZ w64 (s .args .top))) (walk .0) (toZ-ofZ (add-width t)) room)
 
-slice-aggregate-write-all : tie.Need-slice-aggregate-write-all
-slice-aggregate-write-all c = search needs
+slice-aggregate-words : tie.Need-slice-aggregate-words
+slice-aggregate-words c = search needs
 
-write-all-requires : tie.Need-write-all-requires
-write-all-requires c κs = search needs
+words-requires : tie.Need-words-requires
+words-requires c κs = search needs
 
 returns : tie.Need-returns
 returns c = search needs
@@ -61,7 +61,7 @@ show-spec =
     add-width
     walk-of-requires
     print-case-requires
-    slice-aggregate-write-all
-    write-all-requires
+    slice-aggregate-words
+    words-requires
     returns
     returns-2)

@@ -3,8 +3,10 @@ use mathlib.Core.Path.{sym, _∙_}
 use Prim.Native.Nat.{_-_, _<_}
 use native.Mathlib.Omega.{arith}
 use lib.ListN.{length}
+use Rattle.integers.specs.Units.{entryLimit}
+use Rattle.integers.specs.Within.{within-zero}
 use Rattle.haar_vectors.specs.Entries.{Entries}
-use Rattle.haar_vectors.proofs.Tables.{zero-within, entries-set}
+use Rattle.haar_vectors.proofs.Tables.{entries-set}
 use Rattle.haar_vectors.proofs.table.clear.Statement.{statement}
 use Rattle.haar_vectors.proofs.table.clear.Tie as tie
 
@@ -28,6 +30,6 @@ clear-spec =
     inside
     (λ c. record { fits = omega (arith, inside c, c .before .loop .inv .full) })
     (λ c. omega (arith, c .loop-test .taken))
-    (λ c. entries-set (c .before .loop .inv) (inside c) zero-within)
+    (λ c. entries-set (c .before .loop .inv) (inside c) (within-zero entryLimit))
     (λ c. c .before .loop .inv .full ∙ sym (c .before .before .pre .full))
     (λ c. c .before .loop .inv))

@@ -2,17 +2,17 @@
 use Prim.Native.Nat.{_≤_, _-_}
 use lib.ListN.{length}
 use borrow.Author.Needs.{needs}
-use Rattle.haar_vectors.proofs.show.tell_numbers.Statement.{statement}
-use Rattle.haar_vectors.proofs.show.tell_numbers.Tie as tie
+use Rattle.vector_print.proofs.numbers.Statement.{statement}
+use Rattle.vector_print.proofs.numbers.Tie as tie
 
 abbrev Inv-loop : tie.InvT-loop
-Inv-loop numbers sum₀ i₀ i-end sum i = i ≤ length numbers
+Inv-loop list sum₀ i₀ i-end sum i = i ≤ length list
 
 abbrev μ-loop : tie.MeasureT-loop
-μ-loop numbers sum₀ i₀ i-end sum i = length numbers - i
+μ-loop list sum₀ i₀ i-end sum i = length list - i
 
-pub tell-numbers-spec : {M : Type 1} → statement M
-tell-numbers-spec =
+pub numbers-spec : {M : Type 1} → statement M
+numbers-spec =
     tie.close
     (tie.spec
     Inv-loop
