@@ -4,8 +4,10 @@
 --   details             h, v and d, each rounded on its own
 --   rootTerm            the edge's term of the signed area
 --   Exact               rounding keeps the three details
+--   DetailsWithin       a bound of all three
 use mathlib.Core.Path.{_≡_}
 use lib.IntN.{ℤ, pos, _-ℤ_, _*ℤ_}
+use Rattle.integers.specs.Within.{Within}
 use Rattle.integers.specs.Rounding.{roundHalfAway}
 use Rattle.edge.specs.declared.Edge.{Edge}
 use Rattle.edge.specs.declared.Cell.{Cell}
@@ -26,3 +28,8 @@ pub record Exact (e : Edge) (c : Cell) : Type 0 where
   pub h : roundHalfAway (hNum e c) (steps e) *ℤ pos (steps e) ≡ hNum e c
   pub v : roundHalfAway (vNum e c) (steps e) *ℤ pos (steps e) ≡ vNum e c
   pub d : roundHalfAway (dNum e c) (steps e) *ℤ pos (steps e) ≡ dNum e c
+
+pub record DetailsWithin (b : ℤ) (w : Details) : Type 0 where
+  pub h : Within b (w .h)
+  pub v : Within b (w .v)
+  pub d : Within b (w .d)

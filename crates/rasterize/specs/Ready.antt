@@ -20,6 +20,7 @@ use Rattle.integers.specs.Within.{Within}
 use Rattle.edge.specs.declared.Edge.{Edge}
 use Rattle.edge.specs.declared.Cell.{Cell as Square}
 use Rattle.edge.specs.declared.Details.{Details}
+use Rattle.edge.specs.Rounded.{DetailsWithin}
 use Rattle.edge.specs.Room.{coordinateLimit, Even}
 use Rattle.edge.specs.Nested.{Contains, Sheet, OnCell}
 use Rattle.haar.specs.Cells.{children}
@@ -43,10 +44,8 @@ pub record Spare (t : List ℤ) (n : ℕ) : Type 0 where
   pub room : bound + n * detailLimit ≤ sumLimit
   pub each : (i : ℕ) → Within (pos bound) (getD t i (pos 0))
 
-pub record SmallDetails (w : Details) : Type 0 where
-  pub h : Within (pos detailLimit) (w .h)
-  pub v : Within (pos detailLimit) (w .v)
-  pub d : Within (pos detailLimit) (w .d)
+abbrev pub SmallDetails : Details → Type 0
+SmallDetails w = DetailsWithin (pos detailLimit) w
 
 pub record Placed (e : Edge) (left : ℕ) (s : Square) : Type 0 where
   pub sheet : Square

@@ -10,18 +10,15 @@ use Prim.Native.Nat.{ℕ, _*_, _^_, _≤_}
 use native.Mathlib.Omega.{arith}
 use native.Mathlib.Nat.{le-trans, sub-le, sub-le-sub-left, mul-le-mul, mul-le-mul-left, pow-le-pow-right}
 use lib.ListN.{length}
-use lib.IntN.{ℤ, pos, _*ℤ_}
-use lib.Signed.{_≤ℤ_}
+use lib.IntN.{pos}
 use Rattle.integers.specs.Units.{stepsPerPixel, greatestDepth, greatestCoordinate, mostEdges, builtEntryLimit}
 use Rattle.integers.specs.Order.{nonneg, pos-≤ℤ}
-use Rattle.integers.specs.Magnitude.{abs, abs-nonneg}
-use Rattle.integers.specs.Within.{Within, within-le, within-self, within-mul, abs-of-within}
+use Rattle.integers.specs.Within.{Within, within-le}
 use Rattle.integers.specs.ListSum.{All, all-map, total-bounded}
 use Rattle.edge.specs.declared.Edge.{Edge}
 use Rattle.edge.specs.Rounded.{details, rootTerm}
 use Rattle.edge.specs.Nested.{OnCell}
-use Rattle.edge.specs.Laws.Cells.{difference-on, product-on}
-use Rattle.edge.specs.Laws.Bounds.{rounded-h-bound, rounded-v-bound, rounded-d-bound}
+use Rattle.edge.specs.Laws.Cells.{difference-on, product-on, details-on}
 use Rattle.haar.specs.Table.{Bounded}
 use Rattle.haar.specs.Plane.{dimensions}
 use Rattle.accuracy.specs.Tile.{cellWidth, square, tile, EdgeOnTile}
@@ -44,12 +41,9 @@ unfolding rootTerm
 edge-bounded {depth} {e} o = record {
   root-within = difference-on (product-on (on .x1) (on .y0)) (product-on (on .x0) (on .y1));
   detail-within = λ j i cell b k m n.
-      let c = square depth j cell in
-      let w≥0 = nonneg (cellWidth depth j) in
-      let x = run-le j (difference-on (on .x0) (on .x1)) in
-      let y = run-le j (difference-on (on .y0) (on .y1)) in
-      by-number (Within (pos (s * s))) (details e c)
-      (within-le y (rounded-h-bound e c w≥0)) (within-le x (rounded-v-bound e c w≥0)) (within-le y (rounded-d-bound e c w≥0)) k m n;
+      let narrow : cellWidth depth j ≤ s = width-le (sub-le-sub-left {n = 0} (omega arith) depth) in
+      let w = details-on (square depth j cell) on (nonneg (cellWidth depth j)) (pos-≤ℤ (mul-le-mul-left s narrow)) in
+      by-number (Within (pos (s * s))) (details e (square depth j cell)) (w .h) (w .v) (w .d) k m n;
 }
   where
     s : ℕ
@@ -57,12 +51,6 @@ edge-bounded {depth} {e} o = record {
 
     on : OnCell (tile depth) e
     on = on-cell depth e o
-
-    run-le : {run : ℤ} (j : ℕ) → Within (pos s) run → (abs run *ℤ pos (cellWidth depth j)) ≤ℤ pos (s * s)
-    run-le {run} j h =
-        let narrow : cellWidth depth j ≤ s = width-le (sub-le-sub-left {n = 0} (omega arith) depth) in
-        within-mul (within-le (abs-of-within h) (within-self (abs-nonneg run)))
-        (within-le (pos-≤ℤ narrow) (within-self (nonneg (cellWidth depth j)))) .high
 
 -- ---- what all of them add
 pub entries-bounded : {depth : ℕ} (es : List Edge) → All (EdgeOnTile depth) es

@@ -7,6 +7,7 @@
 --                                                        between 0 and w is between 0 and w²
 --   sheet-measured                                       an edge on a sheet is in range
 --   sheet-room                                           so it has room in each even cell of the sheet whose width times the sheet's is in range
+--   details-on                                           the three details of an edge on a sheet, in a cell: at most the two widths' product
 use mathlib.Core.Path.{_≡_}
 use mathlib.Core.List.{[], _∷_}
 use Prim.Native.Nat.{ℕ, zero, suc, _<_}
@@ -16,12 +17,15 @@ use lib.Signed.{_≤ℤ_}
 use Rattle.integers.specs.Units.{widthTimesExtentLimit}
 use Rattle.integers.specs.Order.{≤ℤ-trans, ≤ℤ-mul, ≤ℤ-mul-nonneg}
 use Rattle.integers.specs.Linear.{le, eq, _&_, none!, linear, lin≤}
-use Rattle.integers.specs.Within.{Within}
+use Rattle.integers.specs.Magnitude.{abs}
+use Rattle.integers.specs.Within.{Within, within-le, abs-of-within}
 use Rattle.edge.specs.declared.Edge.{Edge}
 use Rattle.edge.specs.declared.Cell.{Cell}
 use Rattle.edge.specs.Walk.{extent, dx, dy}
 use Rattle.edge.specs.Room.{coordinateLimit, Measured, Even, Room}
+use Rattle.edge.specs.Rounded.{details, DetailsWithin}
 use Rattle.edge.specs.Nested.{quarter, Contains, OnRange, OnCell, Sheet}
+use Rattle.edge.specs.Laws.Bounds.{rounded-h-bound, rounded-v-bound, rounded-d-bound}
 
 -- ---- cells in cells
 pub contains-refl : (c : Cell) → Contains c c
@@ -118,3 +122,17 @@ sheet-room {s} {c} {e} t o k v m = record {
 
     product : (d : ℤ) → Within (s .width) d → (pos (extent d) *ℤ c .width) ≤ℤ pos widthTimesExtentLimit
     product d p = lin≤ (pos (extent d) ∷ s .width ∷ c .width ∷ []) (le (≤ℤ-mul (extent-at-most d (t .width) p) w≥0) & le m) (search linear depth 40) tt
+
+-- ---- how large the details are: in a cell, at most how far the edge can run on the sheet times the cell's width
+pub details-on : {s : Cell} {e : Edge} {b : ℤ} (c : Cell) → OnCell s e → pos 0 ≤ℤ c .width → (s .width *ℤ c .width) ≤ℤ b → DetailsWithin b (details e c)
+details-on {s} {e} {b} c o w≥0 m =
+    let x = run (difference-on (o .x0) (o .x1)) in
+    let y = run (difference-on (o .y0) (o .y1)) in
+    record {
+      h = within-le y (rounded-h-bound e c w≥0);
+      v = within-le x (rounded-v-bound e c w≥0);
+      d = within-le y (rounded-d-bound e c w≥0);
+    }
+  where
+    run : {r : ℤ} → Within (s .width) r → (abs r *ℤ c .width) ≤ℤ b
+    run {r} h = lin≤ (abs r ∷ s .width ∷ c .width ∷ b ∷ []) (le (≤ℤ-mul (abs-of-within h) w≥0) & le m) (search linear depth 40) tt

@@ -16,16 +16,13 @@ use lib.Signed.{_≤ℤ_}
 use Rattle.integers.specs.Units.{widthTimesExtentLimit}
 use Rattle.integers.specs.Order.{nonneg, ≤ℤ-mul}
 use Rattle.integers.specs.Linear.{le, eq, _&_, linear, lin≤}
-use Rattle.integers.specs.Magnitude.{abs}
-use Rattle.integers.specs.Within.{Within, within-le, abs-of-within}
 use Rattle.edge.specs.declared.Edge.{Edge}
 use Rattle.edge.specs.declared.Cell.{Cell as Square}
 use Rattle.edge.specs.Inside.{Inside}
 use Rattle.edge.specs.Room.{Even, Room}
 use Rattle.edge.specs.Rounded.{details}
 use Rattle.edge.specs.Nested.{Contains, quarter}
-use Rattle.edge.specs.Laws.Cells.{contains-trans, contains-quarter, difference-on, sheet-room}
-use Rattle.edge.specs.Laws.Bounds.{rounded-h-bound, rounded-v-bound, rounded-d-bound}
+use Rattle.edge.specs.Laws.Cells.{contains-trans, contains-quarter, sheet-room, details-on}
 use Rattle.edge.specs.Laws.Zero.{inside-wider}
 use Rattle.rasterize.specs.declared.Node.{Node}
 use Rattle.rasterize.specs.Nodes.{quarters, halfWidth, quarterNode}
@@ -58,20 +55,8 @@ module _ {e : Edge} {left : ℕ} {s : Square} (p : Placed e (suc left) s) where
   pub placed-room : Room e s
   placed-room = sheet-room (p .is-sheet) (p .edge-on) (p .square-on) placed-even (p .narrow)
 
-  -- how far the edge runs in a direction is at most the sheet's width
-  run-le : {run : ℤ} → Within (p .sheet .width) run → (abs run *ℤ s .width) ≤ℤ pos widthTimesExtentLimit
-  run-le {run} h =
-      lin≤ (abs run ∷ p .sheet .width ∷ s .width ∷ []) (le (≤ℤ-mul (abs-of-within h) placed-width) & le (p .narrow)) (search linear depth 40) tt
-
   pub placed-details : SmallDetails (details e s)
-  placed-details =
-      let x = run-le (difference-on (p .edge-on .x0) (p .edge-on .x1)) in
-      let y = run-le (difference-on (p .edge-on .y0) (p .edge-on .y1)) in
-      record {
-        h = within-le y (rounded-h-bound e s placed-width);
-        v = within-le x (rounded-v-bound e s placed-width);
-        d = within-le y (rounded-d-bound e s placed-width);
-      }
+  placed-details = details-on s (p .edge-on) placed-width (p .narrow)
 
   pub placed-contains : (a b : ℕ) → a < 2 → b < 2 → Contains s (quarter s (halfWidth s) a b)
   placed-contains a b h k = contains-quarter s (halfWidth s) twice half≥0 a b h k
