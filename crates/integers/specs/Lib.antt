@@ -15,6 +15,8 @@ pub mod Machine
 pub mod Division
 -- each of these at work
 pub mod Tour
+-- a test of all numbers below one
+pub mod Below
 -- magnitude and bounds
 pub mod Magnitude
 pub mod Within

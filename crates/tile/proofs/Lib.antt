@@ -3,10 +3,6 @@
 -- the questions, one after the other
 pub mod Asking
 pub mod LevelFirst
--- one test and then another
-pub mod Conjunction
--- a test of every element of a slice
-pub mod Every
 -- the counts' sum
 pub mod CountsSum
 -- the product of a side with itself

@@ -2,8 +2,10 @@
 
 -- what there is after a call
 pub mod IfDone
--- what a test says; the first "no" of a list of questions
+-- what a test says; a test and then another, a test of every element as code has it; the first "no" of a list of questions
 pub mod Tests
+pub mod Conjunction
+pub mod Every
 pub mod FirstNo
 -- a side and its depth
 pub mod Sides

@@ -12,7 +12,7 @@ use borrow.Author.Needs.{needs}
 use borrow.Author.Tests.{not-true, not-false}
 use Rattle.integers.specs.Bits.{back, field-is}
 use Rattle.tile.specs.Questions.{every}
-use Rattle.tile.proofs.Every.{every-fails, every-next, every-end}
+use Rattle.tile.specs.Laws.Every.{every-fails, every-next, every-end}
 use Rattle.tile.proofs.all_within.Statement.{statement}
 use Rattle.tile.proofs.all_within.Tie as tie
 

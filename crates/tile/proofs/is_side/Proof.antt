@@ -1,32 +1,19 @@
 -- Up to the greatest side, the numbers with one bit are the sides: one computed test of each number. Above it there is no side.
-use mathlib.Core.Path.{_≡_, refl, sym, _∙_, subst⁻¹}
-use mathlib.Core.Bool.{Bool, true, false, not, cond, _&&_}
-use Prim.Native.Nat.{ℕ, zero, suc, _<_, _≤_}
+use mathlib.Core.Path.{_≡_, refl, sym, _∙_}
+use mathlib.Core.Bool.{Bool, true, false, not, cond}
+use Prim.Native.Nat.{ℕ, suc, _<_, _≤_}
 use native.Mathlib.Omega.{arith}
 use native.Mathlib.Decide.{decLt}
 use lib.Count.{ones, onesIn}
 use lib.Dec.{eqb}
 use borrow.Author.Tests.{le-leb, lt-leb, eq-eqb, ne-eqb}
 use Rattle.integers.specs.Units.{greatestSide}
+use Rattle.integers.specs.Below.{allBelow, below}
 use Rattle.tile.specs.Questions.{question1}
 use Rattle.tile.specs.Laws.Sides.{side-le}
-use Rattle.tile.specs.Laws.Tests.{and-means}
 use Rattle.tile.proofs.is_side.Statement.{statement}
 use Rattle.tile.proofs.is_side.Tie as tie
 
--- ---- a test that holds of every number below k
-allBelow : (ℕ → Bool) → ℕ → Bool
-allBelow test zero = true
-allBelow test (suc k) = test k && allBelow test k
-
-below : (test : ℕ → Bool) (k : ℕ) → allBelow test k ≡ true → (n : ℕ) → n < k → test n ≡ true
-unfolding allBelow
-below test zero t n h = absurd (omega arith)
-below test (suc k) t n h =
-    let b = and-means (test k) (allBelow test k) {P = test k ≡ true} {Q = allBelow test k ≡ true} (λ e. e, λ e. e) (λ e. e, λ e. e) .0 t in
-    elim (decLt n k) [ yes p ↦ below test k (b .1) n p | no p ↦ (let e : n ≡ k = omega arith in subst⁻¹ (λ m. test m ≡ true) e (b .0)) ]
-
--- ---- the sides
 -- one bit exactly where the answer is yes
 agrees : ℕ → Bool
 agrees n = cond (eqb (ones n) 1) (question1 n .answer) (not (question1 n .answer))

@@ -2,7 +2,7 @@
 use mathlib.Core.Path.{sym, _∙_, ap₂}
 use lib.Signed.{leZ}
 use mir.Facts.{toZ-ofZ}
-use Rattle.tile.proofs.Conjunction.{second-decides, first-decides}
+use Rattle.tile.specs.Laws.Conjunction.{second-decides, first-decides}
 use Rattle.tile.proofs.is_within.Statement.{statement}
 use Rattle.tile.proofs.is_within.Tie as tie
 

@@ -1,0 +1,37 @@
+-- A frame: a side, a level and an outline, and its text.
+--
+-- "one frame a line in lowercase hexadecimal, each line closed by byte 0A. Line one: side, two digits, then level, two digits. Each further line is a
+-- contour: for each point four digits of x and four of y."
+--
+-- Definitions
+--   Frame                          what a frame says; the outline is its coordinates, x and y in turn, and its counts
+--   contourText counts points      the contours' lines
+--   frameText f                    the text of a frame
+use mathlib.Core.List.{List, [], _∷_, _++_, map}
+use Prim.Native.Nat.{ℕ, _*_}
+use lib.ListN.{take, drop}
+use lib.IntN.{ℤ, natAbs}
+use Rattle.frame.specs.Lines.{lineText}
+
+pub record Frame : Type 0 where
+  pub side : ℕ
+  pub level : ℕ
+  pub points : List ℤ
+  pub counts : List ℕ
+
+abbrev pub frame : ℕ → ℕ → List ℤ → List ℕ → Frame
+frame side level points counts = record { side = side; level = level; points = points; counts = counts }
+
+-- how many digits the side and the level have, and a coordinate
+abbrev pub headWidth : ℕ
+headWidth = 2
+
+abbrev pub coordinateWidth : ℕ
+coordinateWidth = 4
+
+unfoldable pub contourText : List ℕ → List ℤ → List ℕ
+contourText [] points = []
+contourText (n ∷ counts) points = lineText coordinateWidth (map natAbs (take (2 * n) points)) ++ contourText counts (drop (2 * n) points)
+
+abbrev pub frameText : Frame → List ℕ
+frameText f = lineText headWidth (f .side ∷ f .level ∷ []) ++ contourText (f .counts) (f .points)

@@ -1,0 +1,41 @@
+-- What inner functions answer.
+--
+-- Definitions
+--   lineLength t             how many bytes stand before the first 0A, or how many there are
+--   isBody t                 is the text after a frame's first line so formed?
+--   bodyCoordinates, bodyCounts, sizeOf      what such a text says, and how much
+--   Readable                 what reading it asks: a coordinate has four bytes of it, and a contour nine at least
+use mathlib.Core.Path.{_≡_}
+use mathlib.Core.Bool.{Bool, true, cond, _&&_}
+use mathlib.Core.List.{List, [], _∷_, map}
+use Prim.Native.Nat.{ℕ, suc, _*_, _≤_}
+use lib.Dec.{eqb}
+use lib.IntN.{ℤ}
+use lib.ListN.{length}
+use Rattle.integers.specs.Units.{textLimit}
+use Rattle.tile.specs.Questions.{every}
+use Rattle.frame.specs.declared.reading.Size.{Size}
+use Rattle.frame.specs.Lines.{newline, lines, closes}
+use Rattle.frame.specs.Reading.{isContour, allCoordinates, pointCount}
+
+unfoldable pub lineLength : List ℕ → ℕ
+lineLength [] = 0
+lineLength (b ∷ t) = cond (eqb b newline) 0 (suc (lineLength t))
+
+abbrev pub isBody : List ℕ → Bool
+isBody t = closes t && every isContour (lines t)
+
+abbrev pub bodyCoordinates : List ℕ → List ℤ
+bodyCoordinates t = allCoordinates (lines t)
+
+abbrev pub bodyCounts : List ℕ → List ℕ
+bodyCounts t = map pointCount (lines t)
+
+abbrev pub sizeOf : List ℕ → Size
+sizeOf t = record { coordinates = length (bodyCoordinates t); contours = length (bodyCounts t) }
+
+pub record Readable (body : List ℕ) (room-points room-counts : ℕ) : Type 0 where
+  pub formed : isBody body ≡ true
+  pub short : length body ≤ textLimit
+  pub for-points : length body ≤ 4 * room-points
+  pub for-counts : length body ≤ 9 * room-counts

@@ -1,0 +1,158 @@
+-- What the program's calls answer: numbers that two digits hold, and pictures and tables that its arrays hold.
+--
+-- Main results
+--   used-places-le, used-entries-le        they are within the program's arrays
+--   zeros-length, take-zeros               zeros
+--   draw-number-small, build-number-small  a refusal's number has two digits
+--   Drawn, drawn                           what is known where the greys are not refused
+--   table-length, built-table-length       building leaves as many entries
+--   drawn-length, output-length            how long an answer is
+--   answer-holds, answer-printed           its first bytes are the text
+use mathlib.Core.Path.{_≡_, refl, sym, _∙_, ap, subst⁻¹}
+use mathlib.Core.Bool.{Bool, true, false, cond}
+use mathlib.Core.List.{List, [], _∷_, _++_}
+use mathlib.Core.Logic.{inl, inr}
+use Prim.Native.Nat.{ℕ, zero, suc, _+_, _*_, _^_, _<_, _≤_}
+use native.Mathlib.Nat.{mul-le-mul, pow-le-pow-right, one-le-pow}
+use native.Mathlib.Decide.{decLt, decLe}
+use native.Mathlib.Omega.{arith}
+use lib.Dec.{eqb, leb, lit<}
+use lib.Pow.{pow-mono}
+use lib.IntN.{ℤ, pos}
+use lib.ListN.{length, getD, take, drop, replicate, length-append, length-replicate}
+use borrow.Author.Tests.{le-leb, leb-true}
+use Rattle.integers.specs.Units.{greatestSide, greatestDepth}
+use Rattle.haar.specs.Greys.{greyOf}
+use Rattle.haar.specs.Plane.{dimensions, pictureIn}
+use Rattle.haar.specs.Table.{stored}
+use Rattle.haar.specs.Laws.Cells.{level-square}
+use Rattle.haar.specs.Laws.Pictures.{picture-length}
+use Rattle.tile.specs.Outcomes.{ifDone, buildRefusal, buildTable, drawRefusal, greysPicture}
+use Rattle.tile.specs.Refusals.{building-refusals, drawing-refusals, question2-means, refused-table}
+use Rattle.tile.specs.TableEntries.{built-length}
+use Rattle.tile.specs.DrawnFigures.{greys-drawn}
+use Rattle.tile.specs.Laws.Tests.{OneOf}
+use Rattle.tile.specs.Laws.Answers.{drawable-picture}
+use Rattle.frame.specs.declared.Answer.{Answer}
+use Rattle.frame.specs.Frames.{Frame}
+use Rattle.frame.specs.Reading.{isFrame, frameOf}
+use Rattle.frame.specs.Output.{refusalText, rowsText, summaryText, zeros, usedPlaces, drawNumber, greysOf, pictureText, drawnText, usedEntries, usedTable, buildNumber, builtTable, edgesBuilt, outputOf, outputText, answerLength, answerOf}
+use Rattle.frame.specs.Laws.Over.{over-front, over-room}
+use Rattle.frame.specs.Laws.Printing.{rows-text-length, summary-length, refusal-length}
+
+pub used-places-le : (level : ℕ) → usedPlaces level ≤ 4096
+used-places-le level = go (leb level greatestDepth) refl
+  where
+    go : (b : Bool) → leb level greatestDepth ≡ b → cond b (4 ^ level) 0 ≤ 4096
+    go true e = pow-le-pow-right {n = 4} (omega arith) {i = level} {j = 6} (leb-true level greatestDepth e)
+    go false e = omega arith
+
+pub used-entries-le : (side : ℕ) → usedEntries side ≤ 4096
+used-entries-le side = go (leb side greatestSide) refl
+  where
+    go : (b : Bool) → leb side greatestSide ≡ b → cond b (side * side) 0 ≤ 4096
+    go true e = let h = leb-true side greatestSide e in mul-le-mul {n₁ = side} {m₁ = side} {n₂ = 64} {m₂ = 64} h h
+    go false e = omega arith
+
+pub zeros-length : (n : ℕ) → length (zeros n) ≡ n
+zeros-length n = length-replicate {A = ℕ} n 0
+
+pub take-zeros : (n m : ℕ) → n ≤ m → take n (zeros m) ≡ zeros n
+take-zeros zero m h = refl
+take-zeros (suc n) zero h = absurd (omega arith)
+take-zeros (suc n) (suc m) h = ap (λ l. 0 ∷ l) (take-zeros n m (omega arith))
+
+-- ---- numbers
+pub draw-number-small : (side level : ℕ) (table : List ℤ) (size : ℕ) → drawRefusal side level table size < 100
+draw-number-small side level table size = go (drawing-refusals side level table size .no-other)
+  where
+    go : {n : ℕ} → OneOf n (0 ∷ 1 ∷ 2 ∷ 7 ∷ 8 ∷ 9 ∷ []) → n < 100
+    go (inl e) = omega arith
+    go (inr (inl e)) = omega arith
+    go (inr (inr (inl e))) = omega arith
+    go (inr (inr (inr (inl e)))) = omega arith
+    go (inr (inr (inr (inr (inl e))))) = omega arith
+    go (inr (inr (inr (inr (inr (inl e)))))) = omega arith
+    go (inr (inr (inr (inr (inr (inr e)))))) = absurd e
+
+pub build-number-small : (side : ℕ) (points : List ℤ) (counts : List ℕ) (table : List ℤ) → buildRefusal side points counts table < 100
+build-number-small side points counts table = go (building-refusals side points counts table .no-other)
+  where
+    go : {n : ℕ} → OneOf n (0 ∷ 1 ∷ 2 ∷ 4 ∷ 5 ∷ 3 ∷ 6 ∷ []) → n < 100
+    go (inl e) = omega arith
+    go (inr (inl e)) = omega arith
+    go (inr (inr (inl e))) = omega arith
+    go (inr (inr (inr (inl e)))) = omega arith
+    go (inr (inr (inr (inr (inl e))))) = omega arith
+    go (inr (inr (inr (inr (inr (inl e)))))) = omega arith
+    go (inr (inr (inr (inr (inr (inr (inl e))))))) = omega arith
+    go (inr (inr (inr (inr (inr (inr (inr e))))))) = absurd e
+
+-- ---- greys that are not refused
+pub record Drawn (side level : ℕ) (table : List ℤ) : Type 0 where
+  pub level-le : level ≤ greatestDepth
+  pub across-le : 2 ^ level ≤ 64
+  pub places : usedPlaces level ≡ 4 ^ level
+  pub has-root : 0 < length table
+  pub greys-length : length (greysOf side level table) ≡ 4 ^ level
+  pub rows : 2 ^ level * 2 ^ level ≡ length (greysOf side level table)
+
+pub drawn : (side level : ℕ) (table : List ℤ) → drawNumber side level table ≡ 0 → Drawn side level table
+drawn side level table e =
+    let d = drawable-picture side level table (usedPlaces level) e in
+    let size = zeros-length (usedPlaces level) in
+    let done : drawRefusal side level table (length (zeros (usedPlaces level))) ≡ 0 = ap (drawRefusal side level table) size ∙ e in
+    let g : length (greysOf side level table) ≡ 4 ^ level =
+    ap length (greys-drawn side level table (zeros (usedPlaces level)) done) ∙ picture-length dimensions (greyOf side) (stored dimensions table) level in
+    record {
+      level-le = d .drawable .shallow;
+      across-le = pow-mono (d .drawable .shallow);
+      places = d .exact;
+      has-root = omega (arith, d .drawable .long, one-le-pow level 4 (omega arith));
+      greys-length = g;
+      rows = level-square level ∙ sym g;
+    }
+
+-- ---- building
+pub table-length : (side : ℕ) (points : List ℤ) (counts : List ℕ) (table : List ℤ) → length (buildTable side points counts table) ≡ length table
+table-length side points counts table = go (buildRefusal side points counts table) refl
+  where
+    go : (number : ℕ) → buildRefusal side points counts table ≡ number → length (buildTable side points counts table) ≡ length table
+    go zero e =
+        let yes2 = building-refusals side points counts table .accepted .0 e .1 .0 in
+        built-length side points counts table e ∙ sym (question2-means side table .0 yes2)
+    go (suc n) e = ap length (refused-table side points counts table (omega arith))
+
+pub built-table-length : (f : Frame) (table : List ℤ) → length (builtTable f table) ≡ length (usedTable f table)
+built-table-length f table = table-length (f .side) (f .points) (f .counts) (usedTable f table)
+
+-- ---- the answer
+pub drawn-length : (side level edges : ℕ) (table : List ℤ) → length (drawnText side level edges table) ≤ answerLength
+drawn-length side level edges table = go (drawNumber side level table) refl
+  where
+    go : (number : ℕ) → drawNumber side level table ≡ number → length (ifDone number (pictureText side level edges table) (refusalText number)) ≤ answerLength
+    go zero e =
+        let d = drawn side level table e in
+        let text = rowsText (2 ^ level) (2 ^ level) (greysOf side level table) in
+        let n = rows-text-length (2 ^ level) (2 ^ level) (greysOf side level table) (omega (arith, d .rows)) in
+        let most = mul-le-mul {n₁ = 2 ^ level} {m₁ = 2 * 2 ^ level + 1} {n₂ = 64} {m₂ = 129} (d .across-le) (omega (arith, d .across-le)) in
+        omega (arith, length-append (summaryText edges (getD table 0 (pos 0))) text, summary-length edges (getD table 0 (pos 0)), n, most)
+    go (suc n) e = omega (arith, refusal-length (suc n))
+
+pub output-length : (t : List ℕ) (table : List ℤ) → length (outputText t table) ≤ answerLength
+output-length t table = go (isFrame t)
+  where
+    go : (b : Bool) → length (cond b (outputOf (frameOf t) table) (refusalText 11)) ≤ answerLength
+    go false = omega (arith, refusal-length 11)
+    go true = built (buildNumber (frameOf t) table)
+      where
+        built : (number : ℕ) → length (ifDone number (drawnText (frameOf t .side) (frameOf t .level) (edgesBuilt (frameOf t) table) (builtTable (frameOf t) table)) (refusalText number)) ≤ answerLength
+        built zero = drawn-length (frameOf t .side) (frameOf t .level) (edgesBuilt (frameOf t) table) (builtTable (frameOf t) table)
+        built (suc n) = omega (arith, refusal-length (suc n))
+
+-- its first bytes are the text
+pub answer-holds : (t : List ℕ) {r : Answer} → r ≡ answerOf t → r .len ≤ length (r .bytes)
+answer-holds t e = over-room t (zeros answerLength) (ap (λ r. r .len) e) (ap (λ r. r .bytes) e)
+
+pub answer-printed : (t : List ℕ) {r : Answer} → r ≡ answerOf t → take (r .len) (r .bytes) ≡ t
+answer-printed t e = over-front t (zeros answerLength) (ap (λ r. r .len) e) (ap (λ r. r .bytes) e)

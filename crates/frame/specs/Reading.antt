@@ -1,0 +1,72 @@
+-- Reading a frame: question 11, and what a text that passes it says. `RoundTrip` has that a text passes where it is the text of a frame, and only
+-- there, and that what is read is that frame.
+--
+-- Definitions
+--   isHead, isContour            is it a frame's first line, or a contour's?
+--   isFrame t, question11 t      is the text so formed, and no longer than the limit?
+--   coordinates l                the numbers of a contour's line
+--   firstLine, otherLines        of a list of lines
+--   frameOf t                    what a text says
+use mathlib.Core.Bool.{Bool, false, _&&_}
+use mathlib.Core.List.{List, [], _∷_, _++_, map}
+use Prim.Native.Nat.{ℕ, _/_, _%_}
+use lib.Dec.{eqb, leb, ltb}
+use lib.ListN.{length, take, drop}
+use lib.IntN.{ℤ, pos}
+use Rattle.integers.specs.Units.{textLimit}
+use Rattle.tile.specs.Questions.{every, Question}
+use Rattle.frame.specs.Digits.{isDigit, hexValue}
+use Rattle.frame.specs.Lines.{lines, closes}
+use Rattle.frame.specs.Frames.{Frame, headWidth}
+
+-- "Line one: side, two digits, then level, two digits."
+abbrev pub isHead : List ℕ → Bool
+isHead l = eqb (length l) 4 && every isDigit l
+
+-- "for each point four digits of x and four of y", "with at least one point a line"
+abbrev pub isContour : List ℕ → Bool
+isContour l = ltb 0 (length l) && (eqb (length l % 8) 0 && every isDigit l)
+
+abbrev pub areFrame : List (List ℕ) → Bool
+areFrame [] = false
+areFrame (l ∷ ls) = isHead l && every isContour ls
+
+abbrev pub isFrame : List ℕ → Bool
+isFrame t = leb (length t) textLimit && (closes t && areFrame (lines t))
+
+-- "Is the text at most 16,384 bytes and so formed, with at least one point a line? No: 11"
+abbrev pub question11 : List ℕ → Question
+question11 t = record { number = 11; answer = isFrame t }
+
+-- ---- what a text says
+unfoldable pub coordinates : List ℕ → List ℤ
+coordinates [] = []
+coordinates (a ∷ []) = []
+coordinates (a ∷ b ∷ []) = []
+coordinates (a ∷ b ∷ c ∷ []) = []
+coordinates (a ∷ b ∷ c ∷ d ∷ l) = pos (hexValue (a ∷ b ∷ c ∷ d ∷ [])) ∷ coordinates l
+
+-- the coordinates of all contours, one contour after the other
+unfoldable pub allCoordinates : List (List ℕ) → List ℤ
+allCoordinates [] = []
+allCoordinates (l ∷ ls) = coordinates l ++ allCoordinates ls
+
+-- a point has eight digits
+abbrev pub pointCount : List ℕ → ℕ
+pointCount l = length l / 8
+
+abbrev pub firstLine : List (List ℕ) → List ℕ
+firstLine [] = []
+firstLine (l ∷ ls) = l
+
+abbrev pub otherLines : List (List ℕ) → List (List ℕ)
+otherLines [] = []
+otherLines (l ∷ ls) = ls
+
+abbrev pub frameOf : List ℕ → Frame
+frameOf t = record {
+  side = hexValue (take headWidth (firstLine (lines t)));
+  level = hexValue (drop headWidth (firstLine (lines t)));
+  points = allCoordinates (otherLines (lines t));
+  counts = map pointCount (otherLines (lines t));
+}

@@ -1,0 +1,146 @@
+// The tile program as one function, from the bytes that it reads to the bytes that it prints.
+//
+// A text goes through three steps. `reading` asks question 11, and takes a text that passes it apart into a side, a level and an outline. `tile` builds
+// the outline's table and draws the greys of the level. `printing` puts the edge count, the root and the greys, or a refusal, into an answer.
+ghost use mathlib.Core.Path.{_≡_};
+ghost use mathlib.Core.List.{_++_};
+ghost use Prim.Native.Nat.{_*_, _<_, _≤_};
+ghost use lib.ListN.{length, drop};
+ghost use Rattle.frame.specs.Output.{refusalText, summaryText, rowsText, usedPlaces, drawnText, usedEntries, builtTable, outputOf, outputText, tableAfter, answerOf};
+ghost use Rattle.frame.specs.Frames.{frame};
+
+mod hex;
+mod printing;
+mod reading;
+
+// The longest text that is a frame. A caller that reads one byte more can tell a text that is too long.
+pub const TEXT_LIMIT: usize = 16384;
+
+// A table of side 64 has so many entries, and its deepest picture so many greys.
+pub const TABLE_LENGTH: usize = 4096;
+
+// Tiles are 1 to 64 pixels wide, and have levels 0 to 6.
+const GREATEST_SIDE: u32 = 64;
+
+const GREATEST_DEPTH: u32 = 6;
+
+// The longest answer: the line of the edge count and the root, and for each of 64 rows one of 64 greys of two digits.
+pub const ANSWER_LENGTH: usize = 8277;
+
+// Question 11: is the text that of a frame?
+const NO_FRAME: u32 = 11;
+
+// What a call answers that did its work.
+const DONE: u32 = 0;
+
+// What the program prints: the first `len` bytes. The others are 0.
+pub struct Answer {
+    pub bytes: [u8; ANSWER_LENGTH],
+    pub len: usize,
+}
+
+// ---- answers
+
+fn refused(number: u32) -> Answer
+    requires { ⌜ number < 100 ⌝ }
+    ensures { λ r. ⌜ r ≡ answerOf (refusalText number) ⌝ }
+{
+    let mut bytes = [0u8; ANSWER_LENGTH];
+    printing::put_refusal(&mut bytes, number);
+    Answer {
+        bytes,
+        len: printing::REFUSAL_LENGTH,
+    }
+}
+
+fn drawn(edges: u32, root: i64, greys: &[u8], across: usize) -> Answer
+    requires { ⌜ (across ≤ 64) × (across * across ≤ length (now greys)) ⌝ }
+    ensures { λ r. ⌜ r ≡ answerOf (summaryText edges root ++ rowsText across across (now (greys .entry))) ⌝ }
+{
+    let mut bytes = [0u8; ANSWER_LENGTH];
+    printing::put_summary(&mut bytes, edges, root);
+    printing::put_rows(&mut bytes[printing::SUMMARY_LENGTH..], greys, across);
+    Answer {
+        bytes,
+        len: printing::SUMMARY_LENGTH + across * (2 * across + 1),
+    }
+}
+
+// ---- drawing
+
+// How many places the picture of a level has: none where the level is out of range, which drawing then refuses.
+fn used_places(level: u32) -> usize
+    ensures { λ r. ⌜ r ≡ usedPlaces level ⌝ }
+{
+    if level > GREATEST_DEPTH {
+        return 0;
+    }
+    let n = haar::cells_across(level as usize);
+    n * n
+}
+
+// The greys of a level, from the table that building left.
+fn draw_table(side: u32, level: u32, edges: u32, table: &[i64]) -> Answer
+    ensures { λ r. ⌜ r ≡ answerOf (drawnText side level edges (now (table .entry))) ⌝ }
+{
+    let mut picture = [0u8; TABLE_LENGTH];
+    let places = used_places(level);
+    let number = tile::greys(side, level, table, &mut picture[..places]);
+    if number != DONE {
+        return refused(number);
+    }
+    drawn(
+        edges,
+        table[0],
+        &picture[..places],
+        haar::cells_across(level as usize),
+    )
+}
+
+// How many entries a tile's table has, of those that the program has: none where the side is out of range, which building then refuses.
+fn used_entries(side: u32) -> usize
+    ensures { λ r. ⌜ r ≡ usedEntries side ⌝ }
+{
+    if side > GREATEST_SIDE {
+        return 0;
+    }
+    (side * side) as usize
+}
+
+// Building, and then the greys.
+fn draw_outline(side: u32, level: u32, points: &[i64], counts: &[u32], table: &mut [i64]) -> Answer
+    requires { ⌜ length (now table) ≡ 4096 ⌝ }
+    ensures { λ r. ⌜ r ≡ answerOf (outputOf (frame side level (now (points .entry)) (now (counts .entry))) (now (table .entry))) ⌝ }
+    ensures { λ _. ⌜ now (table .exit) ≡ builtTable (frame side level (now (points .entry)) (now (counts .entry))) (now (table .entry)) ++ drop (usedEntries side) (now (table .entry)) ⌝ }
+{
+    let n = used_entries(side);
+    let built = tile::build(side, points, counts, &mut table[..n]);
+    let number = built.number;
+    if number != DONE {
+        return refused(number);
+    }
+    draw_table(side, level, built.edges, &table[..n])
+}
+
+// The whole program: what it prints of a text, whatever the table held before. The table has what building left, in its first side × side entries.
+pub fn draw(text: &[u8], table: &mut [i64; TABLE_LENGTH]) -> Answer
+    ensures { λ r. ⌜ r ≡ answerOf (outputText (now (text .entry)) (now (table .entry))) ⌝ }
+    ensures { λ _. ⌜ now (table .exit) ≡ tableAfter (now (text .entry)) (now (table .entry)) ⌝ }
+    ensures { λ _. ⌜ now (text .exit) ≡ now (text .entry) ⌝ }
+{
+    if !reading::is_frame(text) {
+        return refused(NO_FRAME);
+    }
+    let mut points = [0i64; reading::MOST_COORDINATES];
+    let mut counts = [0u32; reading::MOST_CONTOURS];
+    let size = reading::read_contours(&text[reading::BODY_START..], &mut points, &mut counts);
+    let p = size.coordinates;
+    let c = size.contours;
+    draw_outline(
+        reading::side_of(text),
+        reading::level_of(text),
+        &points[..p],
+        &counts[..c],
+        table,
+    )
+}
