@@ -7,10 +7,15 @@
 --   Frame                          what a frame says; the outline is its coordinates, x and y in turn, and its counts
 --   contourText counts points      the contours' lines
 --   frameText f                    the text of a frame
+--   Writable f                     each number has as many digits as it gets, and each contour a point at least
+use mathlib.Core.Path.{_≡_}
 use mathlib.Core.List.{List, [], _∷_, _++_, map}
-use Prim.Native.Nat.{ℕ, _*_}
-use lib.ListN.{take, drop}
-use lib.IntN.{ℤ, natAbs}
+use Prim.Native.Nat.{ℕ, _*_, _^_, _<_}
+use lib.ListN.{length, take, drop}
+use lib.IntN.{ℤ, pos, natAbs}
+use lib.Signed.{_≤ℤ_}
+use Rattle.integers.specs.ListSum.{All}
+use Rattle.accuracy.specs.Outline.{edgeCount}
 use Rattle.frame.specs.Lines.{lineText}
 
 pub record Frame : Type 0 where
@@ -35,3 +40,16 @@ contourText (n ∷ counts) points = lineText coordinateWidth (map natAbs (take (
 
 abbrev pub frameText : Frame → List ℕ
 frameText f = lineText headWidth (f .side ∷ f .level ∷ []) ++ contourText (f .counts) (f .points)
+
+-- what four digits can say
+pub record Sayable (z : ℤ) : Type 0 where
+  pub not-negative : pos 0 ≤ℤ z
+  pub four-digits : natAbs z < 16 ^ coordinateWidth
+
+-- "with at least one point a line"
+pub record Writable (f : Frame) : Type 0 where
+  pub side-fits : f .side < 16 ^ headWidth
+  pub level-fits : f .level < 16 ^ headWidth
+  pub points-fit : All Sayable (f .points)
+  pub some-points : All (λ n. 0 < n) (f .counts)
+  pub all-points : length (f .points) ≡ 2 * edgeCount (f .counts)

@@ -11,3 +11,10 @@ pub mod Reading
 -- what is printed
 pub mod Printing
 pub mod Output
+-- reading what was printed, and printing what was read
+pub mod ReadPrinted
+pub mod PrintedRead
+-- the questions that a frame can fail
+pub mod FrameNumber
+-- where a cell's grey stands
+pub mod PrintedGreys

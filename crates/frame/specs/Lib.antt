@@ -7,7 +7,15 @@ pub mod Lines
 pub mod Frames
 pub mod Reading
 pub mod Output
--- what inner functions answer
+-- ---- what is proved of these
+-- the texts that pass question 11 are those of frames, and reading undoes printing
+pub mod RoundTrip
+-- demand 1: each refusal comes under its question alone; what is printed is said by the text alone
+pub mod Refusals
+-- demand 3: the greys that are printed are at most one from those of the exact areas
+pub mod Printed
+pub mod Theorem
+-- ---- what inner functions answer
 pub mod Inner
 -- ---- how it is proved
 pub mod Laws

@@ -8,6 +8,7 @@ ghost use Prim.Native.Nat.{_*_, _<_, _≤_};
 ghost use lib.ListN.{length, drop};
 ghost use Rattle.frame.specs.Output.{refusalText, summaryText, rowsText, usedPlaces, drawnText, usedEntries, builtTable, outputOf, outputText, tableAfter, answerOf};
 ghost use Rattle.frame.specs.Frames.{frame};
+ghost use Rattle.frame.specs.Printed.{Answered};
 
 mod hex;
 mod printing;
@@ -126,6 +127,7 @@ fn draw_outline(side: u32, level: u32, points: &[i64], counts: &[u32], table: &m
 pub fn draw(text: &[u8], table: &mut [i64; TABLE_LENGTH]) -> Answer
     ensures { λ r. ⌜ r ≡ answerOf (outputText (now (text .entry)) (now (table .entry))) ⌝ }
     ensures { λ _. ⌜ now (table .exit) ≡ tableAfter (now (text .entry)) (now (table .entry)) ⌝ }
+    ensures { λ r. ⌜ Answered (now (text .entry)) r ⌝ }
     ensures { λ _. ⌜ now (text .exit) ≡ now (text .entry) ⌝ }
 {
     if !reading::is_frame(text) {

@@ -12,7 +12,8 @@ use borrow.Author.Tests.{not-true, not-false}
 use Rattle.frame.specs.Over.{over}
 use Rattle.frame.specs.Frames.{Frame, frame}
 use Rattle.frame.specs.Reading.{isFrame, frameOf}
-use Rattle.frame.specs.Output.{refusalText, usedEntries, builtTable, outputOf, answerOf}
+use Rattle.frame.specs.Output.{refusalText, usedEntries, builtTable, outputOf, outputText, answerOf}
+use Rattle.frame.specs.Theorem.{answered, answered-no-frame}
 use Rattle.frame.specs.Inner.{isBody, bodyCoordinates, bodyCounts, sizeOf, Readable}
 use Rattle.frame.specs.Laws.Over.{over-front, over-room}
 use Rattle.frame.specs.Laws.Reading.{Framed, framed, frame-is}
@@ -27,7 +28,10 @@ returns c =
     let table = s .args .table .now in
     let no : isFrame t ≡ false = sym (c .before .before .is-frame .ensures) ∙ not-true _ (c .before .if1 .taken) in (
       c .refused .ensures ∙ ap answerOf (sym (ap (λ b. cond b (outputOf (frameOf t) table) (refusalText 11)) no)),
-      (sym (ap (λ b. cond b (builtTable (frameOf t) table ++ drop (usedEntries (frameOf t .side)) table) table) no), refl),
+      (
+        sym (ap (λ b. cond b (builtTable (frameOf t) table ++ drop (usedEntries (frameOf t .side)) table) table) no),
+        (answered-no-frame t no (c .refused .ensures), refl),
+      ),
     )
 
 -- a frame
@@ -99,6 +103,9 @@ module _ (c : tie.After-read-contours) where
   counts-room : c .read-contours .result .contours ≤ length counts
   counts-room = over-room (bodyCounts body) (replicate 1820 0) counts-many counts-left
 
+draw-outline-requires : tie.Need-draw-outline-requires
+draw-outline-requires c κs = search needs
+
 returns-2 : tie.Need-returns-2
 returns-2 c =
     let l = c .before .before .before .before in
@@ -107,13 +114,15 @@ returns-2 c =
     let table₀ = table (asked r) in
     let f : frame (l .before .side-of .result) (l .level-of .result) (take (r .read-contours .result .coordinates) (points r)) (take (r .read-contours .result .contours) (counts r)) ≡ frameOf t =
     ap₂ (frame (l .before .side-of .result) (l .level-of .result)) (points-are r) (counts-are r)
-    ∙ frame-is t (is (asked r)) (l .before .side-of .result) (l .level-of .result) (l .before .side-of .ensures) (l .level-of .ensures) in (
-      c .draw-outline .ensures .0 ∙ ap (λ g. answerOf (outputOf g table₀)) f
-          ∙ sym (ap (λ b. answerOf (cond b (outputOf (frameOf t) table₀) (refusalText 11))) (is (asked r))),
+    ∙ frame-is t (is (asked r)) (l .before .side-of .result) (l .level-of .result) (l .before .side-of .ensures) (l .level-of .ensures) in
+    let e : c .draw-outline .result ≡ answerOf (outputText t table₀) =
+    c .draw-outline .ensures .0 ∙ ap (λ g. answerOf (outputOf g table₀)) f
+    ∙ sym (ap (λ b. answerOf (cond b (outputOf (frameOf t) table₀) (refusalText 11))) (is (asked r))) in (
+      e,
       (
         c .draw-outline .ensures .1 ∙ ap (λ g. builtTable g table₀ ++ drop (usedEntries (g .side)) table₀) f
             ∙ sym (ap (λ b. cond b (builtTable (frameOf t) table₀ ++ drop (usedEntries (frameOf t .side)) table₀) table₀) (is (asked r))),
-        refl,
+        (answered t table₀ (draw-outline-requires (c .before) (c .draw-outline .lifetimes)) e, refl),
       ),
     )
 
@@ -136,5 +145,5 @@ draw-spec =
     (λ c. let r = c .before .before .before .before .before in sym (length-take-le _ (points r) (points-room r)))
     (λ c. counts-room (c .before .before .before .before .before))
     (λ c. let r = c .before .before .before .before .before .before in sym (length-take-le _ (counts r) (counts-room r)))
-    (λ c κs. search needs)
+    draw-outline-requires
     returns-2)

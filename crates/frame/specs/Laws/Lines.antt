@@ -33,12 +33,12 @@ record Cut (t : List ℕ) (n : ℕ) : Type 0 where
   lines-are : lines t ≡ take n t ∷ lines (drop (suc n) t)
   closes-is : closes t ≡ closes (drop (suc n) t)
 
-closes-after : (b : ℕ) (t : List ℕ) → 0 < length t → closes (b ∷ t) ≡ closes t
+pub closes-after : (b : ℕ) (t : List ℕ) → 0 < length t → closes (b ∷ t) ≡ closes t
 unfolding closes
 closes-after b [] h = absurd (omega arith)
 closes-after b (c ∷ t) h = refl
 
-closes-newline : (b : ℕ) (t : List ℕ) → eqb b newline ≡ true → closes (b ∷ t) ≡ closes t
+pub closes-newline : (b : ℕ) (t : List ℕ) → eqb b newline ≡ true → closes (b ∷ t) ≡ closes t
 unfolding closes
 closes-newline b [] e = e
 closes-newline b (c ∷ t) e = refl
