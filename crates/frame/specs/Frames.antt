@@ -5,12 +5,15 @@
 --
 -- Definitions
 --   Frame                          what a frame says; the outline is its coordinates, x and y in turn, and its counts
+--   frame side level points counts    the frame that says these
+--   headWidth, headLength          how many digits the side and the level have, each and together
+--   coordinateWidth, pointWidth    and a coordinate and a point
 --   contourText counts points      the contours' lines
 --   frameText f                    the text of a frame
 --   Writable f                     each number has as many digits as it gets, and each contour a point at least
 use mathlib.Core.Path.{_≡_}
 use mathlib.Core.List.{List, [], _∷_, _++_, map}
-use Prim.Native.Nat.{ℕ, _*_, _^_, _<_}
+use Prim.Native.Nat.{ℕ, _+_, _*_, _^_, _<_}
 use lib.ListN.{length, take, drop}
 use lib.IntN.{ℤ, pos, natAbs}
 use lib.Signed.{_≤ℤ_}
@@ -27,12 +30,19 @@ pub record Frame : Type 0 where
 abbrev pub frame : ℕ → ℕ → List ℤ → List ℕ → Frame
 frame side level points counts = record { side = side; level = level; points = points; counts = counts }
 
--- how many digits the side and the level have, and a coordinate
+-- "side, two digits, then level, two digits"
 abbrev pub headWidth : ℕ
 headWidth = 2
 
+abbrev pub headLength : ℕ
+headLength = headWidth + headWidth
+
+-- "for each point four digits of x and four of y"
 abbrev pub coordinateWidth : ℕ
 coordinateWidth = 4
+
+abbrev pub pointWidth : ℕ
+pointWidth = coordinateWidth + coordinateWidth
 
 unfoldable pub contourText : List ℕ → List ℤ → List ℕ
 contourText [] points = []

@@ -4,7 +4,7 @@
 --   lineLength t             how many bytes stand before the first 0A, or how many there are
 --   isBody t                 is the text after a frame's first line so formed?
 --   bodyCoordinates, bodyCounts, sizeOf      what such a text says, and how much
---   Readable                 what reading it asks: a coordinate has four bytes of it, and a contour nine at least
+--   Readable                 what reading it asks: room for a coordinate for each four bytes, and for a contour for each nine
 use mathlib.Core.Path.{_≡_}
 use mathlib.Core.Bool.{Bool, true, cond, _&&_}
 use mathlib.Core.List.{List, [], _∷_, map}
@@ -16,6 +16,7 @@ use Rattle.integers.specs.Units.{textLimit}
 use Rattle.tile.specs.Questions.{every}
 use Rattle.frame.specs.declared.reading.Size.{Size}
 use Rattle.frame.specs.Lines.{newline, lines, closes}
+use Rattle.frame.specs.Frames.{coordinateWidth, pointWidth}
 use Rattle.frame.specs.Reading.{isContour, allCoordinates, pointCount}
 
 unfoldable pub lineLength : List ℕ → ℕ
@@ -37,5 +38,5 @@ sizeOf t = record { coordinates = length (bodyCoordinates t); contours = length 
 pub record Readable (body : List ℕ) (room-points room-counts : ℕ) : Type 0 where
   pub formed : isBody body ≡ true
   pub short : length body ≤ textLimit
-  pub for-points : length body ≤ 4 * room-points
-  pub for-counts : length body ≤ 9 * room-counts
+  pub for-points : length body ≤ coordinateWidth * room-points
+  pub for-counts : length body ≤ suc pointWidth * room-counts

@@ -1,11 +1,13 @@
 -- The tile program, from bytes to bytes: a frame's text, what is read of it, and what is printed. Read in this order.
 
--- a list over another's start
-pub mod Over
+-- ---- what is read: digits and lines; a frame and its text; question 11, and what a text says
 pub mod Digits
 pub mod Lines
 pub mod Frames
 pub mod Reading
+-- ---- what is printed: its lines; a list over another's start; the whole program
+pub mod OutputLines
+pub mod Over
 pub mod Output
 -- ---- what is proved of these
 -- the texts that pass question 11 are those of frames, and reading undoes printing

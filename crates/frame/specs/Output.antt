@@ -1,23 +1,19 @@
 -- What the tile program prints, and what its table holds afterwards.
 --
--- "Output: a line of four digits of edge count and sixteen of the root in two's complement; then one line a row of greys, two digits each. Building
--- comes first, then the greys. A refusal prints only the line `refused`, one space and two decimal digits."
---
 -- Definitions
---   refusalText number                     the line of a refusal
---   rowsText across rows picture           the lines of a picture
---   summaryText edges root                 the line of edge count and root
 --   zeros n                                n zeros
 --   usedPlaces level, drawNumber, greysOf  drawing the table that building left: how many places, the refusal, the greys
 --   pictureText, drawnText                 and what is printed of it
 --   usedEntries side, usedTable            how much of the table building gets
 --   buildNumber, builtTable, edgesBuilt    building: the refusal, the table, the edge count
 --   outputOf f table                       what is printed of a frame
---   outputText t table, tableAfter t table   what the program prints of a text, and what its table holds afterwards
---   answerOf t                             a text in an array of fixed length
+--   tableLength                            how many entries the program's table has
+--   outputText t table, tableAfter t table   what is printed of a text, and what the table holds afterwards
+--   answerLength, answerOf t               a text in an array that holds the longest answer
+use mathlib.Core.Path.{_≡_, refl}
 use mathlib.Core.Bool.{cond}
-use mathlib.Core.List.{List, [], _∷_, _++_}
-use Prim.Native.Nat.{ℕ, zero, suc, _/_, _%_, _*_, _^_}
+use mathlib.Core.List.{List, _++_}
+use Prim.Native.Nat.{ℕ, _+_, _*_, _^_}
 use lib.Dec.{leb}
 use lib.ListN.{length, getD, take, drop, replicate}
 use lib.IntN.{ℤ, pos}
@@ -25,29 +21,9 @@ use Rattle.integers.specs.Units.{greatestSide, greatestDepth}
 use Rattle.tile.specs.Outcomes.{ifDone, buildRefusal, buildResult, buildTable, drawRefusal, greysPicture}
 use Rattle.frame.specs.declared.Answer.{Answer}
 use Rattle.frame.specs.Over.{over}
-use Rattle.frame.specs.Digits.{digitChar, hex, twosComplement}
-use Rattle.frame.specs.Lines.{newline, lineText}
 use Rattle.frame.specs.Frames.{Frame}
 use Rattle.frame.specs.Reading.{isFrame, question11, frameOf}
-
--- `refused` and one space
-abbrev pub refusedWord : List ℕ
-refusedWord = 114 ∷ 101 ∷ 102 ∷ 117 ∷ 115 ∷ 101 ∷ 100 ∷ 32 ∷ []
-
-abbrev pub refusalText : ℕ → List ℕ
-refusalText number = refusedWord ++ (digitChar (number / 10) ∷ digitChar (number % 10) ∷ newline ∷ [])
-
--- "one line a row of greys, two digits each"
-abbrev pub greyWidth : ℕ
-greyWidth = 2
-
-unfoldable pub rowsText : ℕ → ℕ → List ℕ → List ℕ
-rowsText across zero picture = []
-rowsText across (suc rows) picture = lineText greyWidth (take across picture) ++ rowsText across rows (drop across picture)
-
--- "a line of four digits of edge count and sixteen of the root in two's complement"
-abbrev pub summaryText : ℕ → ℤ → List ℕ
-summaryText edges root = hex 4 edges ++ (hex 16 (twosComplement root) ++ (newline ∷ []))
+use Rattle.frame.specs.OutputLines.{refusalText, rowsText, summaryText, summaryLength, rowLength}
 
 abbrev pub zeros : ℕ → List ℕ
 zeros n = replicate n 0
@@ -92,6 +68,13 @@ abbrev pub outputOf : Frame → List ℤ → List ℕ
 outputOf f table =
     ifDone (buildNumber f table) (drawnText (f .side) (f .level) (edgesBuilt f table) (builtTable f table)) (refusalText (buildNumber f table))
 
+-- "a table of 4,096 noughts": as many entries as a tile of the greatest side has
+abbrev pub tableLength : ℕ
+tableLength = greatestSide * greatestSide
+
+table-length-is : tableLength ≡ 4096
+table-length-is = refl
+
 -- ---- a text: "No: 11, before all others"
 abbrev pub outputText : List ℕ → List ℤ → List ℕ
 outputText t table = cond (isFrame t) (outputOf (frameOf t) table) (refusalText (question11 t .number))
@@ -101,9 +84,12 @@ abbrev pub tableAfter : List ℕ → List ℤ → List ℤ
 tableAfter t table = cond (isFrame t) (builtTable (frameOf t) table ++ drop (usedEntries (frameOf t .side)) table) table
 
 -- ---- an answer: the text over the start of an array of zeros, and its length
--- the longest answer: the summary has 21 bytes, and each of 64 rows 64 greys of two digits and its end
+-- the longest answer has as many rows as the greatest side
 abbrev pub answerLength : ℕ
-answerLength = 8277
+answerLength = summaryLength + greatestSide * rowLength greatestSide
+
+answer-length-is : answerLength ≡ 8277
+answer-length-is = refl
 
 abbrev pub answerOf : List ℕ → Answer
 answerOf t = record { bytes = over t (zeros answerLength); len = length t }

@@ -18,25 +18,25 @@ use Rattle.frame.specs.Digits.{hexValue, twosComplement}
 use Rattle.frame.specs.declared.Answer.{Answer}
 use Rattle.frame.specs.Frames.{Frame}
 use Rattle.frame.specs.Reading.{frameOf}
-use Rattle.frame.specs.Output.{refusalText}
+use Rattle.frame.specs.OutputLines.{refusalText, greyWidth, edgesWidth, rootWidth, summaryLength, rowLength}
 use Rattle.frame.specs.Refusals.{frameRefusal}
 
--- The first line has 4 digits of edge count, 16 of the root, and its end. Then each row has two digits for each of its cells, and its end.
+-- after the first line and the rows above, two digits for each of the cells before it
 abbrev pub digitsAt : ℕ → ℕ → ℕ → ℕ
-digitsAt level cx cy = 21 + (cy * (2 * 2 ^ level + 1) + 2 * cx)
+digitsAt level cx cy = summaryLength + (cy * rowLength (2 ^ level) + greyWidth * cx)
 
 abbrev pub printedNumber : List ℕ → ℕ → ℕ → ℕ
 printedNumber out place width = hexValue (take width (drop place out))
 
 pub record Printed (f : Frame) (out : List ℕ) : Type 0 where
-  pub edges : printedNumber out 0 4 ≡ edgeCount (f .counts)
-  pub root : printedNumber out 4 16 ≡ twosComplement (signedArea (edgesOf (f .points) (f .counts)))
+  pub edges : printedNumber out 0 edgesWidth ≡ edgeCount (f .counts)
+  pub root : printedNumber out edgesWidth rootWidth ≡ twosComplement (signedArea (edgesOf (f .points) (f .counts)))
   -- "Each grey is at most one from the exact area's grey."
   pub greys : (cx cy : ℕ) → cx < 2 ^ f .level → cy < 2 ^ f .level
-      → OneApart (printedNumber out (digitsAt (f .level) cx cy) 2)
+      → OneApart (printedNumber out (digitsAt (f .level) cx cy) greyWidth)
       (grey (f .side) (exactFigureNum (f .side) (f .points) (f .counts) (f .level) cx cy) (exactDenominator (f .points) (f .counts)))
   -- and nothing else is printed
-  pub all : length out ≡ 21 + 2 ^ f .level * (2 * 2 ^ f .level + 1)
+  pub all : length out ≡ summaryLength + 2 ^ f .level * rowLength (2 ^ f .level)
 
 -- the first `len` bytes of an answer are what is printed
 abbrev pub printedOf : Answer → List ℕ

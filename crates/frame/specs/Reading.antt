@@ -3,8 +3,10 @@
 --
 -- Definitions
 --   isHead, isContour            is it a frame's first line, or a contour's?
+--   areFrame ls                  are the lines so formed?
 --   isFrame t, question11 t      is the text so formed, and no longer than the limit?
---   coordinates l                the numbers of a contour's line
+--   coordinates l, pointCount l  the numbers of a contour's line, and how many points it has
+--   allCoordinates ls            the numbers of several
 --   firstLine, otherLines        of a list of lines
 --   frameOf t                    what a text says
 use mathlib.Core.Bool.{Bool, false, _&&_}
@@ -17,15 +19,15 @@ use Rattle.integers.specs.Units.{textLimit}
 use Rattle.tile.specs.Questions.{every, Question}
 use Rattle.frame.specs.Digits.{isDigit, hexValue}
 use Rattle.frame.specs.Lines.{lines, closes}
-use Rattle.frame.specs.Frames.{Frame, headWidth}
+use Rattle.frame.specs.Frames.{Frame, headWidth, headLength, pointWidth}
 
 -- "Line one: side, two digits, then level, two digits."
 abbrev pub isHead : List ℕ → Bool
-isHead l = eqb (length l) 4 && every isDigit l
+isHead l = eqb (length l) headLength && every isDigit l
 
 -- "for each point four digits of x and four of y", "with at least one point a line"
 abbrev pub isContour : List ℕ → Bool
-isContour l = ltb 0 (length l) && (eqb (length l % 8) 0 && every isDigit l)
+isContour l = ltb 0 (length l) && (eqb (length l % pointWidth) 0 && every isDigit l)
 
 abbrev pub areFrame : List (List ℕ) → Bool
 areFrame [] = false
@@ -39,6 +41,7 @@ abbrev pub question11 : List ℕ → Question
 question11 t = record { number = 11; answer = isFrame t }
 
 -- ---- what a text says
+-- four digits at a time
 unfoldable pub coordinates : List ℕ → List ℤ
 coordinates [] = []
 coordinates (a ∷ []) = []
@@ -51,9 +54,8 @@ unfoldable pub allCoordinates : List (List ℕ) → List ℤ
 allCoordinates [] = []
 allCoordinates (l ∷ ls) = coordinates l ++ allCoordinates ls
 
--- a point has eight digits
 abbrev pub pointCount : List ℕ → ℕ
-pointCount l = length l / 8
+pointCount l = length l / pointWidth
 
 abbrev pub firstLine : List (List ℕ) → List ℕ
 firstLine [] = []

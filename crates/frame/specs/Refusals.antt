@@ -25,7 +25,8 @@ use Rattle.tile.specs.Laws.Tests.{OneOf}
 use Rattle.tile.specs.Laws.FirstNo.{each-number, firstNo-among}
 use Rattle.frame.specs.Frames.{Frame}
 use Rattle.frame.specs.Reading.{isFrame, question11, frameOf}
-use Rattle.frame.specs.Output.{refusalText, pictureText, outputOf, outputText}
+use Rattle.frame.specs.OutputLines.{refusalText}
+use Rattle.frame.specs.Output.{pictureText, outputOf, tableLength, outputText}
 use Rattle.frame.specs.Laws.FrameNumber.{outlineQuestions, frame-output}
 
 -- "11, before all others"; then building's, and then the greys'
@@ -39,7 +40,7 @@ frameRefusal t = firstNo (frameQuestions t)
 abbrev pub drawnOutput : Frame → List ℕ
 drawnOutput f = pictureText (f .side) (f .level) (edgeCount (f .counts)) (tableOf (f .side) (f .points) (f .counts))
 
-pub output-is : (t : List ℕ) (table : List ℤ) → length table ≡ 4096
+pub output-is : (t : List ℕ) (table : List ℤ) → length table ≡ tableLength
     → outputText t table ≡ ifDone (frameRefusal t) (drawnOutput (frameOf t)) (refusalText (frameRefusal t))
 output-is t table h = go (isFrame t) refl
   where

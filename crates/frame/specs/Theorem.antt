@@ -35,7 +35,8 @@ use Rattle.frame.specs.Digits.{hex, hexValue, twosComplement}
 use Rattle.frame.specs.Lines.{newline}
 use Rattle.frame.specs.Frames.{Frame, Writable}
 use Rattle.frame.specs.Reading.{isFrame, frameOf}
-use Rattle.frame.specs.Output.{refusalText, rowsText, summaryText, zeros, usedPlaces, drawNumber, greysOf, usedTable, buildNumber, outputText, answerOf}
+use Rattle.frame.specs.OutputLines.{refusalText, rowsText, summaryText}
+use Rattle.frame.specs.Output.{zeros, usedPlaces, drawNumber, greysOf, usedTable, buildNumber, tableLength, outputText, answerOf}
 use Rattle.frame.specs.Refusals.{frameQuestions, frameRefusal, drawnOutput, output-is, frame-refusals}
 use Rattle.frame.specs.Printed.{digitsAt, printedNumber, Printed, Answered}
 use Rattle.frame.specs.Laws.Digits.{hex-length, value-hex}
@@ -45,7 +46,7 @@ use Rattle.frame.specs.Laws.PrintedRead.{read-writable}
 use Rattle.frame.specs.Laws.FrameNumber.{outlineQuestions, buildQuestions, build-number-is, built-table, draw-number-is}
 use Rattle.frame.specs.Laws.PrintedGreys.{picture-digits}
 
-module _ (t : List ℕ) (table : List ℤ) (h : length table ≡ 4096) (done : frameRefusal t ≡ 0) where
+module _ (t : List ℕ) (table : List ℤ) (h : length table ≡ tableLength) (done : frameRefusal t ≡ 0) where
   abbrev f : Frame
   f = frameOf t
 
@@ -162,7 +163,7 @@ module _ (t : List ℕ) (table : List ℤ) (h : length table ≡ 4096) (done : f
             );
       })
 
-pub answered : (t : List ℕ) (table : List ℤ) → length table ≡ 4096 → {r : Answer} → r ≡ answerOf (outputText t table) → Answered t r
+pub answered : (t : List ℕ) (table : List ℤ) → length table ≡ tableLength → {r : Answer} → r ≡ answerOf (outputText t table) → Answered t r
 answered t table h e =
     let out = answer-printed (outputText t table) e in
     record {

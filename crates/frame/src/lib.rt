@@ -6,7 +6,9 @@ ghost use mathlib.Core.Path.{_≡_};
 ghost use mathlib.Core.List.{_++_};
 ghost use Prim.Native.Nat.{_*_, _<_, _≤_};
 ghost use lib.ListN.{length, drop};
-ghost use Rattle.frame.specs.Output.{refusalText, summaryText, rowsText, usedPlaces, drawnText, usedEntries, builtTable, outputOf, outputText, tableAfter, answerOf};
+ghost use Rattle.integers.specs.Units.{greatestSide};
+ghost use Rattle.frame.specs.OutputLines.{refusalText, summaryText, rowsText};
+ghost use Rattle.frame.specs.Output.{usedPlaces, drawnText, usedEntries, builtTable, outputOf, tableLength, outputText, tableAfter, answerOf};
 ghost use Rattle.frame.specs.Frames.{frame};
 ghost use Rattle.frame.specs.Printed.{Answered};
 
@@ -26,7 +28,7 @@ const GREATEST_SIDE: u32 = 64;
 const GREATEST_DEPTH: u32 = 6;
 
 // The longest answer: the line of the edge count and the root, and for each of 64 rows one of 64 greys of two digits.
-pub const ANSWER_LENGTH: usize = 8277;
+pub const ANSWER_LENGTH: usize = 21 + 64 * 129;
 
 // Question 11: is the text that of a frame?
 const NO_FRAME: u32 = 11;
@@ -55,7 +57,7 @@ fn refused(number: u32) -> Answer
 }
 
 fn drawn(edges: u32, root: i64, greys: &[u8], across: usize) -> Answer
-    requires { ⌜ (across ≤ 64) × (across * across ≤ length (now greys)) ⌝ }
+    requires { ⌜ (across ≤ greatestSide) × (across * across ≤ length (now greys)) ⌝ }
     ensures { λ r. ⌜ r ≡ answerOf (summaryText edges root ++ rowsText across across (now (greys .entry))) ⌝ }
 {
     let mut bytes = [0u8; ANSWER_LENGTH];
@@ -63,7 +65,7 @@ fn drawn(edges: u32, root: i64, greys: &[u8], across: usize) -> Answer
     printing::put_rows(&mut bytes[printing::SUMMARY_LENGTH..], greys, across);
     Answer {
         bytes,
-        len: printing::SUMMARY_LENGTH + across * (2 * across + 1),
+        len: printing::SUMMARY_LENGTH + across * (printing::GREY_WIDTH * across + 1),
     }
 }
 
@@ -110,7 +112,7 @@ fn used_entries(side: u32) -> usize
 
 // Building, and then the greys.
 fn draw_outline(side: u32, level: u32, points: &[i64], counts: &[u32], table: &mut [i64]) -> Answer
-    requires { ⌜ length (now table) ≡ 4096 ⌝ }
+    requires { ⌜ length (now table) ≡ tableLength ⌝ }
     ensures { λ r. ⌜ r ≡ answerOf (outputOf (frame side level (now (points .entry)) (now (counts .entry))) (now (table .entry))) ⌝ }
     ensures { λ _. ⌜ now (table .exit) ≡ builtTable (frame side level (now (points .entry)) (now (counts .entry))) (now (table .entry)) ++ drop (usedEntries side) (now (table .entry)) ⌝ }
 {

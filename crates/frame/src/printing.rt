@@ -2,16 +2,17 @@
 ghost use mathlib.Core.Path.{_≡_};
 ghost use Prim.Native.Nat.{_+_, _*_, _<_, _≤_};
 ghost use lib.ListN.{length};
+ghost use Rattle.integers.specs.Units.{greatestSide};
 ghost use Rattle.frame.specs.Over.{over};
 ghost use Rattle.frame.specs.Digits.{twosComplement};
 ghost use Rattle.frame.specs.Lines.{lineText};
-ghost use Rattle.frame.specs.Output.{refusalText, greyWidth, rowsText, summaryText};
+ghost use Rattle.frame.specs.OutputLines.{refusalText, greyWidth, rowsText, summaryText, summaryLength, rowLength};
 use super::hex::digit_char;
 use super::hex::put_hex;
 use integers::magnitude;
 
 // A grey has two digits, the edge count four, and the root sixteen.
-const GREY_WIDTH: usize = 2;
+pub const GREY_WIDTH: usize = 2;
 
 const EDGES_WIDTH: usize = 4;
 
@@ -35,7 +36,7 @@ fn put(out: &mut [u8], text: &[u8])
 
 // The line of a refusal.
 pub fn put_refusal(out: &mut [u8], number: u32)
-    requires { ⌜ (number < 100) × (11 ≤ length (now out)) ⌝ }
+    requires { ⌜ (number < 100) × (length (refusalText number) ≤ length (now out)) ⌝ }
     ensures { λ _. ⌜ now (out .exit) ≡ over (refusalText number) (now (out .entry)) ⌝ }
 {
     put(out, b"refused ");
@@ -57,7 +58,7 @@ fn twos_complement(z: i64) -> u64
 
 // The line of the edge count and the root.
 pub fn put_summary(out: &mut [u8], edges: u32, root: i64)
-    requires { ⌜ 21 ≤ length (now out) ⌝ }
+    requires { ⌜ summaryLength ≤ length (now out) ⌝ }
     ensures { λ _. ⌜ now (out .exit) ≡ over (summaryText edges root) (now (out .entry)) ⌝ }
 {
     put_hex(out, edges as u64, EDGES_WIDTH);
@@ -67,7 +68,7 @@ pub fn put_summary(out: &mut [u8], edges: u32, root: i64)
 
 // The line of a row of greys.
 fn put_row(out: &mut [u8], row: &[u8])
-    requires { ⌜ 2 * length (now row) < length (now out) ⌝ }
+    requires { ⌜ rowLength (length (now row)) ≤ length (now out) ⌝ }
     ensures { λ _. ⌜ now (out .exit) ≡ over (lineText greyWidth (now (row .entry))) (now (out .entry)) ⌝ }
 {
     let n = row.len();
@@ -80,7 +81,7 @@ fn put_row(out: &mut [u8], row: &[u8])
 
 // The lines of a picture that has as many rows as each of them has greys.
 pub fn put_rows(out: &mut [u8], picture: &[u8], across: usize)
-    requires { ⌜ (across ≤ 64) × (across * across ≤ length (now picture)) × (across * (2 * across + 1) ≤ length (now out)) ⌝ }
+    requires { ⌜ (across ≤ greatestSide) × (across * across ≤ length (now picture)) × (across * rowLength across ≤ length (now out)) ⌝ }
     ensures { λ _. ⌜ now (out .exit) ≡ over (rowsText across across (now (picture .entry))) (now (out .entry)) ⌝ }
 {
     let mut at = 0;

@@ -4,6 +4,7 @@ ghost use mathlib.Core.Bool.{true};
 ghost use Prim.Native.Nat.{_*_, _≤_};
 ghost use lib.ListN.{length};
 ghost use Rattle.frame.specs.Over.{over};
+ghost use Rattle.frame.specs.Frames.{coordinateWidth};
 ghost use Rattle.frame.specs.Reading.{isHead, isContour, isFrame, coordinates, frameOf};
 ghost use Rattle.frame.specs.Inner.{lineLength, isBody, bodyCoordinates, bodyCounts, sizeOf, Readable};
 use super::TEXT_LIMIT;
@@ -26,7 +27,7 @@ const POINT_WIDTH: usize = 8;
 pub const MOST_COORDINATES: usize = TEXT_LIMIT / COORDINATE_WIDTH;
 
 // And a contour has the digits of one point at least, and the end of its line.
-pub const MOST_CONTOURS: usize = TEXT_LIMIT / 9;
+pub const MOST_CONTOURS: usize = TEXT_LIMIT / (POINT_WIDTH + 1);
 
 // How many coordinates and how many contours there are.
 pub struct Size {
@@ -117,7 +118,7 @@ pub fn level_of(text: &[u8]) -> u32
 
 // The coordinates of a contour's line, over the start of the points.
 fn read_coordinates(line: &[u8], points: &mut [i64])
-    requires { ⌜ length (now line) ≤ 4 * length (now points) ⌝ }
+    requires { ⌜ length (now line) ≤ coordinateWidth * length (now points) ⌝ }
     ensures { λ _. ⌜ now (points .exit) ≡ over (coordinates (now (line .entry))) (now (points .entry)) ⌝ }
 {
     for i in 0..line.len() / COORDINATE_WIDTH {

@@ -12,7 +12,8 @@ use borrow.Author.Tests.{not-true, not-false}
 use Rattle.frame.specs.Over.{over}
 use Rattle.frame.specs.Frames.{Frame, frame}
 use Rattle.frame.specs.Reading.{isFrame, frameOf}
-use Rattle.frame.specs.Output.{refusalText, usedEntries, builtTable, outputOf, outputText, answerOf}
+use Rattle.frame.specs.OutputLines.{refusalText}
+use Rattle.frame.specs.Output.{usedEntries, builtTable, outputOf, outputText, answerOf}
 use Rattle.frame.specs.Theorem.{answered, answered-no-frame}
 use Rattle.frame.specs.Inner.{isBody, bodyCoordinates, bodyCounts, sizeOf, Readable}
 use Rattle.frame.specs.Laws.Over.{over-front, over-room}

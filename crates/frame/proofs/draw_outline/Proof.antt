@@ -11,7 +11,8 @@ use borrow.Author.Needs.{needs}
 use Rattle.tile.specs.Outcomes.{buildRefusal, buildResult, buildTable}
 use Rattle.tile.specs.Laws.IfDone.{if-done, if-refused}
 use Rattle.frame.specs.Frames.{Frame, frame}
-use Rattle.frame.specs.Output.{refusalText, drawnText, usedEntries, usedTable, builtTable, buildNumber, edgesBuilt, outputOf, answerOf}
+use Rattle.frame.specs.OutputLines.{refusalText}
+use Rattle.frame.specs.Output.{drawnText, usedEntries, usedTable, builtTable, buildNumber, edgesBuilt, outputOf, answerOf}
 use Rattle.frame.specs.Laws.Output.{used-entries-le, build-number-small, built-table-length}
 use Rattle.frame.proofs.draw_outline.Statement.{statement}
 use Rattle.frame.proofs.draw_outline.Tie as tie

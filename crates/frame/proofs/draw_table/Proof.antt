@@ -12,7 +12,8 @@ use borrow.Author.Needs.{needs}
 use Rattle.integers.specs.Bits.{field-is}
 use Rattle.tile.specs.Outcomes.{drawRefusal, greysPicture}
 use Rattle.tile.specs.Laws.IfDone.{if-done, if-refused}
-use Rattle.frame.specs.Output.{refusalText, rowsText, summaryText, zeros, usedPlaces, drawNumber, greysOf, pictureText, drawnText, answerOf}
+use Rattle.frame.specs.OutputLines.{refusalText, rowsText, summaryText}
+use Rattle.frame.specs.Output.{zeros, usedPlaces, drawNumber, greysOf, pictureText, drawnText, answerOf}
 use Rattle.frame.specs.Laws.Output.{used-places-le, zeros-length, take-zeros, draw-number-small, Drawn, drawn}
 use Rattle.frame.proofs.draw_table.Statement.{statement}
 use Rattle.frame.proofs.draw_table.Tie as tie

@@ -28,7 +28,8 @@ use Rattle.tile.specs.Laws.IfDone.{if-done, if-refused}
 use Rattle.tile.specs.Laws.BuiltTable.{built-is, tableOf-length}
 use Rattle.frame.specs.Frames.{Frame, Writable}
 use Rattle.frame.specs.Reading.{isFrame, frameOf}
-use Rattle.frame.specs.Output.{refusalText, usedPlaces, drawNumber, pictureText, drawnText, usedEntries, usedTable, buildNumber, builtTable, edgesBuilt, outputOf}
+use Rattle.frame.specs.OutputLines.{refusalText}
+use Rattle.frame.specs.Output.{usedPlaces, drawNumber, pictureText, drawnText, usedEntries, usedTable, buildNumber, builtTable, edgesBuilt, outputOf, tableLength}
 use Rattle.frame.specs.Laws.Output.{used-entries-le}
 use Rattle.frame.specs.Laws.PrintedRead.{read-writable}
 
@@ -60,7 +61,7 @@ then-number (q ∷ qs) r h = go (q .answer) (then-number qs r (h .1))
 abbrev pub buildQuestions : Frame → List Question
 buildQuestions f = question1 (f .side) ∷ question4 (f .counts) ∷ question5 (f .counts) ∷ question6 (f .side) (f .points) ∷ []
 
-module _ (f : Frame) (w : Writable f) (table : List ℤ) (h : length table ≡ 4096) where
+module _ (f : Frame) (w : Writable f) (table : List ℤ) (h : length table ≡ tableLength) where
   used-is : Yes (question1 (f .side)) → usedEntries (f .side) ≡ f .side * f .side
   used-is y = ap (λ b. cond b (f .side * f .side) 0) (le-leb (f .side) greatestSide (side-le (f .side) y))
 
@@ -107,7 +108,7 @@ module _ (f : Frame) (w : Writable f) (table : List ℤ) (h : length table ≡ 4
             let yes2 = question2-means (f .side) built .1 (tableOf-length (f .side) (f .points) (f .counts) is-side) in
             drawing-refusals (f .side) (f .level) built (usedPlaces (f .level)) .refused7 .1 (is-side, (yes2, e))
 
-pub frame-output : (t : List ℕ) → isFrame t ≡ true → (table : List ℤ) → length table ≡ 4096
+pub frame-output : (t : List ℕ) → isFrame t ≡ true → (table : List ℤ) → length table ≡ tableLength
     → (let f = frameOf t in
     outputOf f table
     ≡ ifDone (firstNo (outlineQuestions f)) (pictureText (f .side) (f .level) (edgeCount (f .counts)) (tableOf (f .side) (f .points) (f .counts)))

@@ -36,7 +36,8 @@ use Rattle.tile.specs.Laws.Answers.{drawable-picture}
 use Rattle.frame.specs.declared.Answer.{Answer}
 use Rattle.frame.specs.Frames.{Frame}
 use Rattle.frame.specs.Reading.{isFrame, frameOf}
-use Rattle.frame.specs.Output.{refusalText, rowsText, summaryText, zeros, usedPlaces, drawNumber, greysOf, pictureText, drawnText, usedEntries, usedTable, buildNumber, builtTable, edgesBuilt, outputOf, outputText, answerLength, answerOf}
+use Rattle.frame.specs.OutputLines.{refusalText, rowsText, summaryText}
+use Rattle.frame.specs.Output.{zeros, usedPlaces, drawNumber, greysOf, pictureText, drawnText, usedEntries, usedTable, buildNumber, builtTable, edgesBuilt, outputOf, outputText, answerLength, answerOf}
 use Rattle.frame.specs.Laws.Over.{over-front, over-room}
 use Rattle.frame.specs.Laws.Printing.{rows-text-length, summary-length, refusal-length}
 

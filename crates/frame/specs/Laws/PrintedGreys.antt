@@ -13,7 +13,7 @@ use lib.ListN.{length, getD, take, drop, length-drop}
 use lib.Seq.{length-take-le, drop-drop, drop-append-add, getD-take, getD-drop}
 use Rattle.frame.specs.Digits.{hex}
 use Rattle.frame.specs.Lines.{lineText}
-use Rattle.frame.specs.Output.{greyWidth, rowsText}
+use Rattle.frame.specs.OutputLines.{greyWidth, rowsText}
 use Rattle.frame.specs.Laws.Printing.{row-length}
 
 pub row-digits : (row : List ℕ) (cx : ℕ) (rest : List ℕ) → cx < length row → take 2 (drop (2 * cx) (lineText greyWidth row ++ rest)) ≡ hex 2 (getD row cx 0)

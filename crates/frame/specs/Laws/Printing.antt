@@ -13,7 +13,7 @@ use lib.ListN.{length, take, drop, length-append, length-drop}
 use lib.Seq.{length-take-le}
 use Rattle.frame.specs.Digits.{hex, twosComplement}
 use Rattle.frame.specs.Lines.{newline, lineText}
-use Rattle.frame.specs.Output.{refusalText, greyWidth, rowsText, summaryText}
+use Rattle.frame.specs.OutputLines.{refusalText, greyWidth, rowsText, summaryText}
 use Rattle.frame.specs.Laws.Digits.{hex-length}
 
 pub line-text-length : (width : ℕ) (ns : List ℕ) → length (lineText width ns) ≡ length ns * width + 1

@@ -11,7 +11,7 @@ use borrow.Rule.Slice.PartMut.{putMid}
 use Rattle.frame.specs.Over.{over, overAt}
 use Rattle.frame.specs.Digits.{hex}
 use Rattle.frame.specs.Lines.{newline, lineText}
-use Rattle.frame.specs.Output.{greyWidth}
+use Rattle.frame.specs.OutputLines.{greyWidth}
 use Rattle.frame.specs.Laws.Digits.{hex-length}
 use Rattle.frame.specs.Laws.Over.{written, written-length, set-over}
 use Rattle.frame.proofs.Parts.{part-length, part-over}

@@ -9,7 +9,7 @@ use lib.Seq.{drop-drop, length-take-le}
 use borrow.Author.Needs.{needs}
 use Rattle.frame.specs.Over.{over, overAt}
 use Rattle.frame.specs.Lines.{lineText}
-use Rattle.frame.specs.Output.{greyWidth, rowsText}
+use Rattle.frame.specs.OutputLines.{greyWidth, rowsText}
 use Rattle.frame.specs.Laws.Over.{written, written-length, over-end}
 use Rattle.frame.specs.Laws.Printing.{rows-next, row-length}
 use Rattle.frame.proofs.Parts.{part-length, part-over}

@@ -11,7 +11,7 @@ use borrow.Rule.Slice.PartMut.{putMid}
 use Rattle.frame.specs.Over.{over, overAt}
 use Rattle.frame.specs.Digits.{hex, twosComplement}
 use Rattle.frame.specs.Lines.{newline}
-use Rattle.frame.specs.Output.{summaryText}
+use Rattle.frame.specs.OutputLines.{summaryText}
 use Rattle.frame.specs.Laws.Digits.{hex-length}
 use Rattle.frame.specs.Laws.Over.{written, written-length, over-entry, over-end}
 use Rattle.frame.proofs.Parts.{part-over}
