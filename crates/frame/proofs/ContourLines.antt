@@ -14,11 +14,11 @@ use lib.IntN.{ℤ}
 use lib.ListN.{length, take, drop, set, length-set, length-append, length-drop, drop-of-length-le}
 use lib.Seq.{drop-drop, length-take-le}
 use Rattle.frame.specs.declared.reading.Size.{Size}
-use Rattle.frame.specs.Over.{over, overAt}
+use Rattle.frame.specs.Over.{over}
 use Rattle.frame.specs.Lines.{lines}
 use Rattle.frame.specs.Reading.{coordinates, allCoordinates}
 use Rattle.frame.specs.Inner.{lineLength, isBody, bodyCoordinates, bodyCounts, sizeOf}
-use Rattle.frame.specs.Laws.Over.{written, written-length, over-entry, over-end}
+use Rattle.frame.specs.Laws.Over.{overAt, written, written-length, over-entry, over-end}
 use Rattle.frame.specs.Laws.Lines.{line-length-le}
 use Rattle.frame.specs.Laws.Reading.{Closed, closed, coordinates-length, body-coordinates-next, body-counts-next}
 

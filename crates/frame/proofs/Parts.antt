@@ -10,7 +10,8 @@ use native.Mathlib.Omega.{arith}
 use lib.ListN.{length, take, drop, length-drop, drop-of-length-le}
 use lib.Seq.{take-all}
 use borrow.Rule.Slice.PartMut.{putMid}
-use Rattle.frame.specs.Over.{over, overAt}
+use Rattle.frame.specs.Over.{over}
+use Rattle.frame.specs.Laws.Over.{overAt}
 
 module _ {A : Type 0} (at : ℕ) (old : List A) where
   pub part-is : take (length old - at) (drop at old) ≡ drop at old

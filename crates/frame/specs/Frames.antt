@@ -1,7 +1,7 @@
--- A frame: a side, a level and an outline, and its text.
+-- A frame: a side, a level and an outline, and its text. The whole text is one frame, in several lines:
 --
--- "one frame a line in lowercase hexadecimal, each line closed by byte 0A. Line one: side, two digits, then level, two digits. Each further line is a
--- contour: for each point four digits of x and four of y."
+-- "in lowercase hexadecimal, each line closed by byte 0A. Line one: side, two digits, then level, two digits. Each further line is a contour: for each
+-- point four digits of x and four of y."
 --
 -- Definitions
 --   Frame                          what a frame says; the outline is its coordinates, x and y in turn, and its counts
@@ -10,7 +10,7 @@
 --   coordinateWidth, pointWidth    and a coordinate and a point
 --   contourText counts points      the contours' lines
 --   frameText f                    the text of a frame
---   Writable f                     each number has as many digits as it gets, and each contour a point at least
+--   Sayable z, Writable f          each number fits in its digits, each contour has a point, and all points are counted
 use mathlib.Core.Path.{_≡_}
 use mathlib.Core.List.{List, [], _∷_, _++_, map}
 use Prim.Native.Nat.{ℕ, _+_, _*_, _^_, _<_}
@@ -44,6 +44,7 @@ coordinateWidth = 4
 abbrev pub pointWidth : ℕ
 pointWidth = coordinateWidth + coordinateWidth
 
+-- A contour is the run of points that begins where the one before ended. A coordinate that can be written is not negative.
 unfoldable pub contourText : List ℕ → List ℤ → List ℕ
 contourText [] points = []
 contourText (n ∷ counts) points = lineText coordinateWidth (map natAbs (take (2 * n) points)) ++ contourText counts (drop (2 * n) points)
@@ -51,12 +52,12 @@ contourText (n ∷ counts) points = lineText coordinateWidth (map natAbs (take (
 abbrev pub frameText : Frame → List ℕ
 frameText f = lineText headWidth (f .side ∷ f .level ∷ []) ++ contourText (f .counts) (f .points)
 
--- what four digits can say
+-- a coordinate that four digits can say
 pub record Sayable (z : ℤ) : Type 0 where
   pub not-negative : pos 0 ≤ℤ z
   pub four-digits : natAbs z < 16 ^ coordinateWidth
 
--- "with at least one point a line"
+-- a frame that has a text; "with at least one point a line" is `some-points`
 pub record Writable (f : Frame) : Type 0 where
   pub side-fits : f .side < 16 ^ headWidth
   pub level-fits : f .level < 16 ^ headWidth

@@ -11,10 +11,12 @@ pub mod Reading
 -- what is printed
 pub mod Printing
 pub mod Output
--- reading what was printed, and printing what was read
-pub mod ReadPrinted
-pub mod PrintedRead
+-- reading what was written as a frame, and writing what was read
+pub mod ReadWritten
+pub mod WrittenRead
 -- the questions that a frame can fail
 pub mod FrameNumber
 -- where a cell's grey stands
 pub mod PrintedGreys
+-- what a refusal's line says
+pub mod RefusalLines

@@ -10,11 +10,11 @@ pub mod OutputLines
 pub mod Over
 pub mod Output
 -- ---- what is proved of these
--- the texts that pass question 11 are those of frames, and reading undoes printing
+-- the texts that pass question 11 are those of frames, and reading gives back what was written
 pub mod RoundTrip
--- demand 1: each refusal comes under its question alone; what is printed is said by the text alone
+-- demand 1: each refusal comes under its question alone, and leaves the table as it was
 pub mod Refusals
--- demand 3: the greys that are printed are at most one from those of the exact areas
+-- demand 3: the greys that are printed are at most one from those of the exact areas; and that it holds
 pub mod Printed
 pub mod Theorem
 -- ---- what inner functions answer

@@ -1,72 +1,65 @@
--- What the tile program prints, and what its table holds afterwards.
+-- What the tile program prints of a text, and what its table holds afterwards. Both are said by the text alone: what the table held before does
+-- not matter to what is printed.
 --
 -- Definitions
---   zeros n                                n zeros
---   usedPlaces level, drawNumber, greysOf  drawing the table that building left: how many places, the refusal, the greys
---   pictureText, drawnText                 and what is printed of it
---   usedEntries side, usedTable            how much of the table building gets
---   buildNumber, builtTable, edgesBuilt    building: the refusal, the table, the edge count
---   outputOf f table                       what is printed of a frame
---   tableLength                            how many entries the program's table has
---   outputText t table, tableAfter t table   what is printed of a text, and what the table holds afterwards
---   answerLength, answerOf t               a text in an array that holds the longest answer
+--   outlineQuestions f           building's questions and then the greys', of a frame, as far as a frame can fail them
+--   frameQuestions t             those of a text, question 11 before all others
+--   frameRefusal t               the number of the first that is answered no; 0 where all are answered yes
+--   frameTable f, frameGreys f   the table of a frame's outline, and the greys of its level
+--   drawnText f                  what is printed where nothing is refused
+--   outputText t                 what is printed
+--   tableAfter t table           what the table holds afterwards
+--   zeros n, tableLength,
+--   answerLength, answerOf t     the program's table; a text in an array that holds the longest answer
 use mathlib.Core.Path.{_≡_, refl}
-use mathlib.Core.Bool.{cond}
-use mathlib.Core.List.{List, _++_}
+use mathlib.Core.List.{List, [], _∷_, _++_}
 use Prim.Native.Nat.{ℕ, _+_, _*_, _^_}
-use lib.Dec.{leb}
-use lib.ListN.{length, getD, take, drop, replicate}
+use lib.ListN.{length, getD, replicate}
 use lib.IntN.{ℤ, pos}
-use Rattle.integers.specs.Units.{greatestSide, greatestDepth}
-use Rattle.tile.specs.Outcomes.{ifDone, buildRefusal, buildResult, buildTable, drawRefusal, greysPicture}
+use Rattle.integers.specs.Units.{greatestSide}
+use Rattle.haar.specs.Greys.{greyOf}
+use Rattle.haar.specs.Plane.{pictureIn}
+use Rattle.accuracy.specs.Outline.{edgeCount}
+use Rattle.tile.specs.Questions.{Question, firstNo, question1, question4, question5, question6, question7}
+use Rattle.tile.specs.Outcomes.{ifDone, tableOf}
 use Rattle.frame.specs.declared.Answer.{Answer}
 use Rattle.frame.specs.Over.{over}
 use Rattle.frame.specs.Frames.{Frame}
-use Rattle.frame.specs.Reading.{isFrame, question11, frameOf}
+use Rattle.frame.specs.Reading.{question11, frameOf}
 use Rattle.frame.specs.OutputLines.{refusalText, rowsText, summaryText, summaryLength, rowLength}
 
-abbrev pub zeros : ℕ → List ℕ
-zeros n = replicate n 0
+-- ---- refusals
+-- "Building: 1, 2, 4, 5, 3, 6. Pictures and greys: 1, 2, 7, 8, 9." "Building comes first, then the greys." Of these 2, 3, 8 and 9 never decide: the
+-- program takes as much of its table and of a picture as a side and a level that pass 1 and 7 ask for, points and counts come from the same lines, and
+-- the greys are drawn from the table that building left. That the two calls themselves refuse just as this says is a law (`Laws/FrameNumber`).
+abbrev pub outlineQuestions : Frame → List Question
+outlineQuestions f =
+    question1 (f .side) ∷ question4 (f .counts) ∷ question5 (f .counts) ∷ question6 (f .side) (f .points) ∷ question7 (f .side) (f .level) ∷ []
 
--- ---- the table that building left
--- 4^level places for the greys. A level out of range gets none: question 7 is asked first.
-abbrev pub usedPlaces : ℕ → ℕ
-usedPlaces level = cond (leb level greatestDepth) (4 ^ level) 0
+-- "No: 11, before all others."
+abbrev pub frameQuestions : List ℕ → List Question
+frameQuestions t = question11 t ∷ outlineQuestions (frameOf t)
 
-abbrev pub drawNumber : ℕ → ℕ → List ℤ → ℕ
-drawNumber side level table = drawRefusal side level table (usedPlaces level)
+abbrev pub frameRefusal : List ℕ → ℕ
+frameRefusal t = firstNo (frameQuestions t)
 
-abbrev pub greysOf : ℕ → ℕ → List ℤ → List ℕ
-greysOf side level table = greysPicture side level table (zeros (usedPlaces level))
+-- ---- what is printed
+abbrev pub frameTable : Frame → List ℤ
+frameTable f = tableOf (f .side) (f .points) (f .counts)
 
-abbrev pub pictureText : ℕ → ℕ → ℕ → List ℤ → List ℕ
-pictureText side level edges table = summaryText edges (getD table 0 (pos 0)) ++ rowsText (2 ^ level) (2 ^ level) (greysOf side level table)
+abbrev pub frameGreys : Frame → List ℕ
+frameGreys f = pictureIn (greyOf (f .side)) (frameTable f) (f .level)
 
-abbrev pub drawnText : ℕ → ℕ → ℕ → List ℤ → List ℕ
-drawnText side level edges table =
-    ifDone (drawNumber side level table) (pictureText side level edges table) (refusalText (drawNumber side level table))
+-- edge count and root; then the greys, 2^level rows of as many
+abbrev pub drawnText : Frame → List ℕ
+drawnText f = summaryText (edgeCount (f .counts)) (getD (frameTable f) 0 (pos 0)) ++ rowsText (2 ^ f .level) (2 ^ f .level) (frameGreys f)
 
--- ---- a frame: "Building comes first, then the greys."
--- Side × side entries. A side out of range gets none: its square may be more than the table has, and question 1 is asked first.
-abbrev pub usedEntries : ℕ → ℕ
-usedEntries side = cond (leb side greatestSide) (side * side) 0
+abbrev pub outputText : List ℕ → List ℕ
+outputText t = ifDone (frameRefusal t) (drawnText (frameOf t)) (refusalText (frameRefusal t))
 
--- the entries that building gets, and what it leaves in them
-abbrev pub usedTable : Frame → List ℤ → List ℤ
-usedTable f table = take (usedEntries (f .side)) table
-
-abbrev pub builtTable : Frame → List ℤ → List ℤ
-builtTable f table = buildTable (f .side) (f .points) (f .counts) (usedTable f table)
-
-abbrev pub buildNumber : Frame → List ℤ → ℕ
-buildNumber f table = buildRefusal (f .side) (f .points) (f .counts) (usedTable f table)
-
-abbrev pub edgesBuilt : Frame → List ℤ → ℕ
-edgesBuilt f table = buildResult (f .side) (f .points) (f .counts) (usedTable f table) .edges
-
-abbrev pub outputOf : Frame → List ℤ → List ℕ
-outputOf f table =
-    ifDone (buildNumber f table) (drawnText (f .side) (f .level) (edgesBuilt f table) (builtTable f table)) (refusalText (buildNumber f table))
+-- ---- the table: the outline's over its start. "A refusal carries its number ...; tables and pictures keep what they held."
+abbrev pub tableAfter : List ℕ → List ℤ → List ℤ
+tableAfter t table = ifDone (frameRefusal t) (over (frameTable (frameOf t)) table) table
 
 -- "a table of 4,096 noughts": as many entries as a tile of the greatest side has
 abbrev pub tableLength : ℕ
@@ -75,16 +68,11 @@ tableLength = greatestSide * greatestSide
 table-length-is : tableLength ≡ 4096
 table-length-is = refl
 
--- ---- a text: "No: 11, before all others"
-abbrev pub outputText : List ℕ → List ℤ → List ℕ
-outputText t table = cond (isFrame t) (outputOf (frameOf t) table) (refusalText (question11 t .number))
-
--- the entries that building does not get stay as they were
-abbrev pub tableAfter : List ℕ → List ℤ → List ℤ
-tableAfter t table = cond (isFrame t) (builtTable (frameOf t) table ++ drop (usedEntries (frameOf t .side)) table) table
-
 -- ---- an answer: the text over the start of an array of zeros, and its length
--- the longest answer has as many rows as the greatest side
+abbrev pub zeros : ℕ → List ℕ
+zeros n = replicate n 0
+
+-- the longest has as many rows as the greatest side
 abbrev pub answerLength : ℕ
 answerLength = summaryLength + greatestSide * rowLength greatestSide
 

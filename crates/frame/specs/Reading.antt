@@ -1,9 +1,9 @@
--- Reading a frame: question 11, and what a text that passes it says. `RoundTrip` has that a text passes where it is the text of a frame, and only
--- there, and that what is read is that frame.
+-- Reading a frame: question 11, and what a text that passes it says. `RoundTrip` has that a text passes where it is the text of a frame and within the
+-- limit, and only there, and that what is read is that frame.
 --
 -- Definitions
 --   isHead, isContour            is it a frame's first line, or a contour's?
---   areFrame ls                  are the lines so formed?
+--   areFrameLines ls                  are the lines so formed?
 --   isFrame t, question11 t      is the text so formed, and no longer than the limit?
 --   coordinates l, pointCount l  the numbers of a contour's line, and how many points it has
 --   allCoordinates ls            the numbers of several
@@ -29,12 +29,12 @@ isHead l = eqb (length l) headLength && every isDigit l
 abbrev pub isContour : List ℕ → Bool
 isContour l = ltb 0 (length l) && (eqb (length l % pointWidth) 0 && every isDigit l)
 
-abbrev pub areFrame : List (List ℕ) → Bool
-areFrame [] = false
-areFrame (l ∷ ls) = isHead l && every isContour ls
+abbrev pub areFrameLines : List (List ℕ) → Bool
+areFrameLines [] = false
+areFrameLines (l ∷ ls) = isHead l && every isContour ls
 
 abbrev pub isFrame : List ℕ → Bool
-isFrame t = leb (length t) textLimit && (closes t && areFrame (lines t))
+isFrame t = leb (length t) textLimit && (closes t && areFrameLines (lines t))
 
 -- "Is the text at most 16,384 bytes and so formed, with at least one point a line? No: 11"
 abbrev pub question11 : List ℕ → Question

@@ -1,54 +1,25 @@
--- Demand 1 of the program: when it prints each refusal, and that what it prints is said by the text alone, whatever the table held before.
+-- Demand 1 of the program: when it prints each refusal, in both directions.
 --
--- Questions 2, 3 and 8 cannot be answered no: the program itself takes as much of its table and of a picture as the side and the level ask for, and
--- points and counts come from the same lines. Nor can 9: it is the table that building left.
---
--- Definitions
---   frameQuestions t             the questions that a text can fail, in their order
---   frameRefusal t               the number of the first that is answered no, or 0
---   drawnOutput t                what is printed where none is
 -- Main results
---   output-is                    the program prints just that
---   FrameRefusals, frame-refusals     when each number comes, in both directions; no other
-use mathlib.Core.Path.{_≡_, refl, sym, _∙_, ap, subst}
-use mathlib.Core.Bool.{Bool, true, false, cond}
+--   FrameRefusals, frame-refusals     when each number is that of a text; no other is
+--   prints-refusal                    a refusal is printed where its number is the text's, and only there
+--   refused-keeps                     and the table keeps what it held
+use mathlib.Core.Path.{_≡_, refl, sym, _∙_, ap}
 use mathlib.Core.List.{List, [], _∷_}
 use mathlib.Core.Logic.{_↔_}
-use Prim.Native.Nat.{ℕ}
+use Prim.Native.Nat.{ℕ, _<_}
+use native.Mathlib.Omega.{arith}
 use lib.IntN.{ℤ}
-use lib.ListN.{length}
 use Rattle.integers.specs.ListSum.{All}
-use Rattle.accuracy.specs.Outline.{edgeCount}
-use Rattle.tile.specs.Questions.{Question, Yes, No, DecidedBy, firstNo, question1, question4, question5, question6, question7}
-use Rattle.tile.specs.Outcomes.{ifDone, tableOf}
+use Rattle.tile.specs.Questions.{Yes, No, DecidedBy, question1, question4, question5, question6, question7}
 use Rattle.tile.specs.Laws.Tests.{OneOf}
+use Rattle.tile.specs.Laws.IfDone.{if-refused}
 use Rattle.tile.specs.Laws.FirstNo.{each-number, firstNo-among}
-use Rattle.frame.specs.Frames.{Frame}
-use Rattle.frame.specs.Reading.{isFrame, question11, frameOf}
+use Rattle.frame.specs.Over.{over}
+use Rattle.frame.specs.Reading.{question11, frameOf}
 use Rattle.frame.specs.OutputLines.{refusalText}
-use Rattle.frame.specs.Output.{pictureText, outputOf, tableLength, outputText}
-use Rattle.frame.specs.Laws.FrameNumber.{outlineQuestions, frame-output}
-
--- "11, before all others"; then building's, and then the greys'
-abbrev pub frameQuestions : List ℕ → List Question
-frameQuestions t = question11 t ∷ outlineQuestions (frameOf t)
-
-abbrev pub frameRefusal : List ℕ → ℕ
-frameRefusal t = firstNo (frameQuestions t)
-
--- edge count, root and greys of the outline's table
-abbrev pub drawnOutput : Frame → List ℕ
-drawnOutput f = pictureText (f .side) (f .level) (edgeCount (f .counts)) (tableOf (f .side) (f .points) (f .counts))
-
-pub output-is : (t : List ℕ) (table : List ℤ) → length table ≡ tableLength
-    → outputText t table ≡ ifDone (frameRefusal t) (drawnOutput (frameOf t)) (refusalText (frameRefusal t))
-output-is t table h = go (isFrame t) refl
-  where
-    go : (b : Bool) → isFrame t ≡ b
-        → cond b (outputOf (frameOf t) table) (refusalText 11)
-        ≡ ifDone (cond b (firstNo (outlineQuestions (frameOf t))) 11) (drawnOutput (frameOf t)) (refusalText (cond b (firstNo (outlineQuestions (frameOf t))) 11))
-    go false e = refl
-    go true e = frame-output t e table h
+use Rattle.frame.specs.Output.{frameQuestions, frameRefusal, frameTable, drawnText, outputText, tableAfter}
+use Rattle.frame.specs.Laws.RefusalLines.{refusal-decides}
 
 pub record FrameRefusals (t : List ℕ) : Type 0 where
   pub accepted : (frameRefusal t ≡ 0) ↔ All Yes (frameQuestions t)
@@ -79,3 +50,11 @@ frame-refusals t =
       accepted = each .1 .1 .1 .1 .1 .1;
       no-other = firstNo-among (frameQuestions t);
     }
+
+-- two numbers have two lines, and no picture begins like one
+pub prints-refusal : (t : List ℕ) (number : ℕ) → 0 < number → number < 100 → (outputText t ≡ refusalText number) ↔ (frameRefusal t ≡ number)
+prints-refusal t number h k = refusal-decides t number h k
+
+-- "tables and pictures keep what they held"
+pub refused-keeps : (t : List ℕ) (table : List ℤ) → (frameRefusal t ≡ 0 → ⊥) → tableAfter t table ≡ table
+refused-keeps t table n = if-refused (over (frameTable (frameOf t)) table) table n

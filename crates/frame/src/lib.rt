@@ -7,8 +7,10 @@ ghost use mathlib.Core.List.{_++_};
 ghost use Prim.Native.Nat.{_*_, _<_, _≤_};
 ghost use lib.ListN.{length, drop};
 ghost use Rattle.integers.specs.Units.{greatestSide};
+ghost use Rattle.accuracy.specs.Outline.{edgeCount};
 ghost use Rattle.frame.specs.OutputLines.{refusalText, summaryText, rowsText};
-ghost use Rattle.frame.specs.Output.{usedPlaces, drawnText, usedEntries, builtTable, outputOf, tableLength, outputText, tableAfter, answerOf};
+ghost use Rattle.frame.specs.Inner.{pictureSize, tableText, usedEntries, builtTable, outlineText, frameOutput, frameTableAfter, isDeeper, levelRefusal};
+ghost use Rattle.frame.specs.Output.{tableLength, outputText, tableAfter, answerOf};
 ghost use Rattle.frame.specs.Frames.{frame};
 ghost use Rattle.frame.specs.Printed.{Answered};
 
@@ -32,6 +34,9 @@ pub const ANSWER_LENGTH: usize = 21 + 64 * 129;
 
 // Question 11: is the text that of a frame?
 const NO_FRAME: u32 = 11;
+
+// Question 7: does the tile have the level?
+const NO_LEVEL: u32 = 7;
 
 // What a call answers that did its work.
 const DONE: u32 = 0;
@@ -72,8 +77,8 @@ fn drawn(edges: u32, root: i64, greys: &[u8], across: usize) -> Answer
 // ---- drawing
 
 // How many places the picture of a level has: none where the level is out of range, which drawing then refuses.
-fn used_places(level: u32) -> usize
-    ensures { λ r. ⌜ r ≡ usedPlaces level ⌝ }
+fn picture_size(level: u32) -> usize
+    ensures { λ r. ⌜ r ≡ pictureSize level ⌝ }
 {
     if level > GREATEST_DEPTH {
         return 0;
@@ -84,10 +89,10 @@ fn used_places(level: u32) -> usize
 
 // The greys of a level, from the table that building left.
 fn draw_table(side: u32, level: u32, edges: u32, table: &[i64]) -> Answer
-    ensures { λ r. ⌜ r ≡ answerOf (drawnText side level edges (now (table .entry))) ⌝ }
+    ensures { λ r. ⌜ r ≡ answerOf (tableText side level edges (now (table .entry))) ⌝ }
 {
     let mut picture = [0u8; TABLE_LENGTH];
-    let places = used_places(level);
+    let places = picture_size(level);
     let number = tile::greys(side, level, table, &mut picture[..places]);
     if number != DONE {
         return refused(number);
@@ -113,7 +118,7 @@ fn used_entries(side: u32) -> usize
 // Building, and then the greys.
 fn draw_outline(side: u32, level: u32, points: &[i64], counts: &[u32], table: &mut [i64]) -> Answer
     requires { ⌜ length (now table) ≡ tableLength ⌝ }
-    ensures { λ r. ⌜ r ≡ answerOf (outputOf (frame side level (now (points .entry)) (now (counts .entry))) (now (table .entry))) ⌝ }
+    ensures { λ r. ⌜ r ≡ answerOf (outlineText (frame side level (now (points .entry)) (now (counts .entry))) (now (table .entry))) ⌝ }
     ensures { λ _. ⌜ now (table .exit) ≡ builtTable (frame side level (now (points .entry)) (now (counts .entry))) (now (table .entry)) ++ drop (usedEntries side) (now (table .entry)) ⌝ }
 {
     let n = used_entries(side);
@@ -125,9 +130,45 @@ fn draw_outline(side: u32, level: u32, points: &[i64], counts: &[u32], table: &m
     draw_table(side, level, built.edges, &table[..n])
 }
 
-// The whole program: what it prints of a text, whatever the table held before. The table has what building left, in its first side × side entries.
+// Has the level more cells across than the side has pixels? Of a tile's side this is question 7's "no".
+fn is_deeper(side: u32, level: u32) -> bool
+    ensures { λ b. ⌜ b ≡ isDeeper side level ⌝ }
+{
+    if level > GREATEST_DEPTH {
+        return true;
+    }
+    (side as usize) < haar::cells_across(level as usize)
+}
+
+// The refusal where the level is deeper than the tile: building's, or 7. Building has a table of its own, so that the program's stays as it was.
+fn refused_level(side: u32, points: &[i64], counts: &[u32]) -> Answer
+    ensures { λ r. ⌜ r ≡ answerOf (refusalText (levelRefusal side (now (points .entry)) (now (counts .entry)))) ⌝ }
+{
+    let mut table = [0i64; TABLE_LENGTH];
+    let n = used_entries(side);
+    let number = tile::build(side, points, counts, &mut table[..n]).number;
+    if number != DONE {
+        return refused(number);
+    }
+    refused(NO_LEVEL)
+}
+
+// What is printed of a frame. A refusal leaves the table as it was.
+fn draw_frame(side: u32, level: u32, points: &[i64], counts: &[u32], table: &mut [i64]) -> Answer
+    requires { ⌜ (length (now table) ≡ tableLength) × (length (now points) ≡ 2 * edgeCount (now counts)) ⌝ }
+    ensures { λ r. ⌜ r ≡ answerOf (frameOutput (frame side level (now (points .entry)) (now (counts .entry)))) ⌝ }
+    ensures { λ _. ⌜ now (table .exit) ≡ frameTableAfter (frame side level (now (points .entry)) (now (counts .entry))) (now (table .entry)) ⌝ }
+{
+    if is_deeper(side, level) {
+        return refused_level(side, points, counts);
+    }
+    draw_outline(side, level, points, counts, table)
+}
+
+// The whole program: what it prints of a text, whatever the table held before. Where nothing is refused the outline's table is then in the first
+// side × side entries; a refusal leaves the table as it was.
 pub fn draw(text: &[u8], table: &mut [i64; TABLE_LENGTH]) -> Answer
-    ensures { λ r. ⌜ r ≡ answerOf (outputText (now (text .entry)) (now (table .entry))) ⌝ }
+    ensures { λ r. ⌜ r ≡ answerOf (outputText (now (text .entry))) ⌝ }
     ensures { λ _. ⌜ now (table .exit) ≡ tableAfter (now (text .entry)) (now (table .entry)) ⌝ }
     ensures { λ r. ⌜ Answered (now (text .entry)) r ⌝ }
     ensures { λ _. ⌜ now (text .exit) ≡ now (text .entry) ⌝ }
@@ -140,7 +181,7 @@ pub fn draw(text: &[u8], table: &mut [i64; TABLE_LENGTH]) -> Answer
     let size = reading::read_contours(&text[reading::BODY_START..], &mut points, &mut counts);
     let p = size.coordinates;
     let c = size.contours;
-    draw_outline(
+    draw_frame(
         reading::side_of(text),
         reading::level_of(text),
         &points[..p],

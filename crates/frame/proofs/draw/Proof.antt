@@ -1,23 +1,26 @@
 -- Question 11; and then what the frame says is read and drawn.
 use mathlib.Core.Path.{_≡_, refl, sym, _∙_, ap, ap₂}
 use mathlib.Core.Bool.{true, false, cond}
-use mathlib.Core.List.{List, _++_}
-use Prim.Native.Nat.{ℕ, _-_, _*_, _≤_}
+use mathlib.Core.List.{List}
+use Prim.Native.Nat.{ℕ, _*_, _≤_}
 use native.Mathlib.Omega.{arith}
 use lib.IntN.{ℤ, pos}
 use lib.ListN.{length, take, drop, replicate, length-drop}
 use lib.Seq.{length-take-le}
 use borrow.Author.Needs.{needs}
 use borrow.Author.Tests.{not-true, not-false}
+use Rattle.accuracy.specs.Outline.{edgeCount}
+use Rattle.tile.specs.Outcomes.{ifDone}
 use Rattle.frame.specs.Over.{over}
-use Rattle.frame.specs.Frames.{Frame, frame}
+use Rattle.frame.specs.Frames.{frame}
 use Rattle.frame.specs.Reading.{isFrame, frameOf}
 use Rattle.frame.specs.OutputLines.{refusalText}
-use Rattle.frame.specs.Output.{usedEntries, builtTable, outputOf, outputText, answerOf}
-use Rattle.frame.specs.Theorem.{answered, answered-no-frame}
-use Rattle.frame.specs.Inner.{isBody, bodyCoordinates, bodyCounts, sizeOf, Readable}
+use Rattle.frame.specs.Output.{frameRefusal, frameTable, drawnText, outputText, answerOf}
+use Rattle.frame.specs.Theorem.{answered}
+use Rattle.frame.specs.Inner.{isBody, bodyCoordinates, bodyCounts, sizeOf, Readable, outlineRefusal, frameOutput, frameTableAfter}
 use Rattle.frame.specs.Laws.Over.{over-front, over-room}
-use Rattle.frame.specs.Laws.Reading.{Framed, framed, frame-is}
+use Rattle.frame.specs.Laws.Reading.{framed, frame-is}
+use Rattle.frame.specs.Laws.WrittenRead.{read-writable}
 use Rattle.frame.proofs.Parts.{part-is}
 use Rattle.frame.proofs.draw.Statement.{statement}
 use Rattle.frame.proofs.draw.Tie as tie
@@ -26,14 +29,10 @@ returns : tie.Need-returns
 returns c =
     let s = c .before .before .before .before in
     let t = s .args .text .now in
-    let table = s .args .table .now in
-    let no : isFrame t ≡ false = sym (c .before .before .is-frame .ensures) ∙ not-true _ (c .before .if1 .taken) in (
-      c .refused .ensures ∙ ap answerOf (sym (ap (λ b. cond b (outputOf (frameOf t) table) (refusalText 11)) no)),
-      (
-        sym (ap (λ b. cond b (builtTable (frameOf t) table ++ drop (usedEntries (frameOf t .side)) table) table) no),
-        (answered-no-frame t no (c .refused .ensures), refl),
-      ),
-    )
+    let n : isFrame t ≡ false = sym (c .before .before .is-frame .ensures) ∙ not-true _ (c .before .if1 .taken) in
+    let eleven : frameRefusal t ≡ 11 = ap (λ b. cond b (outlineRefusal (frameOf t)) 11) n in
+    let e : c .refused .result ≡ answerOf (outputText t) = c .refused .ensures ∙ ap answerOf (sym (ap (λ k. ifDone k (drawnText (frameOf t)) (refusalText k)) eleven)) in
+    (e, (sym (ap (λ k. ifDone k (over (frameTable (frameOf t)) (s .args .table .now)) (s .args .table .now)) eleven), (answered t e, refl)))
 
 -- a frame
 module _ (c : tie.Else1) where
@@ -104,26 +103,37 @@ module _ (c : tie.After-read-contours) where
   counts-room : c .read-contours .result .contours ≤ length counts
   counts-room = over-room (bodyCounts body) (replicate 1820 0) counts-many counts-left
 
-draw-outline-requires : tie.Need-draw-outline-requires
-draw-outline-requires c κs = search needs
+module _ (c : tie.After-level-of) where
+  abbrev read : tie.After-read-contours
+  read = c .before .before .before .before
+
+  frame-read : frame (c .before .side-of .result) (c .level-of .result) (take (read .read-contours .result .coordinates) (points read)) (take (read .read-contours .result .contours) (counts read))
+      ≡ frameOf (text (asked read))
+  frame-read =
+      ap₂ (frame (c .before .side-of .result) (c .level-of .result)) (points-are read) (counts-are read)
+      ∙ frame-is (text (asked read)) (is (asked read)) (c .before .side-of .result) (c .level-of .result) (c .before .side-of .ensures) (c .level-of .ensures)
+
+draw-frame-requires : tie.Need-draw-frame-requires
+draw-frame-requires c κs =
+    let l = c .before .before .before in
+    let e = frame-read l in
+    (search needs, ap (λ g. length (g .points)) e ∙ read-writable (text (asked (read l))) (is (asked (read l))) .all-points ∙ sym (ap (λ g. 2 * edgeCount (g .counts)) e))
 
 returns-2 : tie.Need-returns-2
 returns-2 c =
     let l = c .before .before .before .before in
-    let r = l .before .before .before .before in
-    let t = text (asked r) in
-    let table₀ = table (asked r) in
-    let f : frame (l .before .side-of .result) (l .level-of .result) (take (r .read-contours .result .coordinates) (points r)) (take (r .read-contours .result .contours) (counts r)) ≡ frameOf t =
-    ap₂ (frame (l .before .side-of .result) (l .level-of .result)) (points-are r) (counts-are r)
-    ∙ frame-is t (is (asked r)) (l .before .side-of .result) (l .level-of .result) (l .before .side-of .ensures) (l .level-of .ensures) in
-    let e : c .draw-outline .result ≡ answerOf (outputText t table₀) =
-    c .draw-outline .ensures .0 ∙ ap (λ g. answerOf (outputOf g table₀)) f
-    ∙ sym (ap (λ b. answerOf (cond b (outputOf (frameOf t) table₀) (refusalText 11))) (is (asked r))) in (
+    let t = text (asked (read l)) in
+    let table₀ = table (asked (read l)) in
+    -- a text that passes question 11: the others decide
+    let n : frameRefusal t ≡ outlineRefusal (frameOf t) = ap (λ b. cond b (outlineRefusal (frameOf t)) 11) (is (asked (read l))) in
+    let e : c .draw-frame .result ≡ answerOf (outputText t) =
+    c .draw-frame .ensures .0 ∙ ap (λ g. answerOf (frameOutput g)) (frame-read l)
+    ∙ sym (ap (λ k. answerOf (ifDone k (drawnText (frameOf t)) (refusalText k))) n) in (
       e,
       (
-        c .draw-outline .ensures .1 ∙ ap (λ g. builtTable g table₀ ++ drop (usedEntries (g .side)) table₀) f
-            ∙ sym (ap (λ b. cond b (builtTable (frameOf t) table₀ ++ drop (usedEntries (frameOf t .side)) table₀) table₀) (is (asked r))),
-        (answered t table₀ (draw-outline-requires (c .before) (c .draw-outline .lifetimes)) e, refl),
+        c .draw-frame .ensures .1 ∙ ap (λ g. frameTableAfter g table₀) (frame-read l)
+            ∙ sym (ap (λ k. ifDone k (over (frameTable (frameOf t)) table₀) table₀) n),
+        (answered t e, refl),
       ),
     )
 
@@ -146,5 +156,5 @@ draw-spec =
     (λ c. let r = c .before .before .before .before .before in sym (length-take-le _ (points r) (points-room r)))
     (λ c. counts-room (c .before .before .before .before .before))
     (λ c. let r = c .before .before .before .before .before .before in sym (length-take-le _ (counts r) (counts-room r)))
-    draw-outline-requires
+    draw-frame-requires
     returns-2)

@@ -12,7 +12,8 @@ use Rattle.tile.specs.Outcomes.{buildRefusal, buildResult, buildTable}
 use Rattle.tile.specs.Laws.IfDone.{if-done, if-refused}
 use Rattle.frame.specs.Frames.{Frame, frame}
 use Rattle.frame.specs.OutputLines.{refusalText}
-use Rattle.frame.specs.Output.{drawnText, usedEntries, usedTable, builtTable, buildNumber, edgesBuilt, outputOf, answerOf}
+use Rattle.frame.specs.Inner.{tableText, usedEntries, usedTable, builtTable, buildNumber, edgesBuilt, outlineText}
+use Rattle.frame.specs.Output.{answerOf}
 use Rattle.frame.specs.Laws.Output.{used-entries-le, build-number-small, built-table-length}
 use Rattle.frame.proofs.draw_outline.Statement.{statement}
 use Rattle.frame.proofs.draw_outline.Tie as tie
@@ -73,7 +74,7 @@ returns c =
           ∙ ap answerOf
           (ap refusalText (number-is b)
           ∙ sym
-          (if-refused (drawnText (f b .side) (f b .level) (edgesBuilt (f b) (table b)) (builtTable (f b) (table b))) (refusalText (buildNumber (f b) (table b)))
+          (if-refused (tableText (f b .side) (f b .level) (edgesBuilt (f b) (table b)) (builtTable (f b) (table b))) (refusalText (buildNumber (f b) (table b)))
           (λ z. c .before .if1 .taken (number-is b ∙ z)))),
       after-is b,
     )
@@ -103,8 +104,8 @@ returns-2 c =
     let b = after e in (
       c .draw-table .ensures
           ∙ ap answerOf
-          (ap₂ (drawnText (f b .side) (f b .level)) (ap (λ r. r .edges) (result-is b)) (table-is e)
-          ∙ sym (if-done (drawnText (f b .side) (f b .level) (edgesBuilt (f b) (table b)) (builtTable (f b) (table b))) (refusalText (buildNumber (f b) (table b))) (done e))),
+          (ap₂ (tableText (f b .side) (f b .level)) (ap (λ r. r .edges) (result-is b)) (table-is e)
+          ∙ sym (if-done (tableText (f b .side) (f b .level) (edgesBuilt (f b) (table b)) (builtTable (f b) (table b))) (refusalText (buildNumber (f b) (table b))) (done e))),
       after-is b,
     )
 

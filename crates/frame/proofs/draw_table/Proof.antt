@@ -13,17 +13,18 @@ use Rattle.integers.specs.Bits.{field-is}
 use Rattle.tile.specs.Outcomes.{drawRefusal, greysPicture}
 use Rattle.tile.specs.Laws.IfDone.{if-done, if-refused}
 use Rattle.frame.specs.OutputLines.{refusalText, rowsText, summaryText}
-use Rattle.frame.specs.Output.{zeros, usedPlaces, drawNumber, greysOf, pictureText, drawnText, answerOf}
-use Rattle.frame.specs.Laws.Output.{used-places-le, zeros-length, take-zeros, draw-number-small, Drawn, drawn}
+use Rattle.frame.specs.Output.{zeros, answerOf}
+use Rattle.frame.specs.Inner.{pictureSize, drawNumber, greysDrawn, pictureText, tableText}
+use Rattle.frame.specs.Laws.Output.{picture-size-le, zeros-length, take-zeros, draw-number-small, Drawn, drawn}
 use Rattle.frame.proofs.draw_table.Statement.{statement}
 use Rattle.frame.proofs.draw_table.Tie as tie
 
 array-borrow-prefix-picture : tie.Need-array-borrow-prefix-picture
-array-borrow-prefix-picture c = omega (arith, c .used-places .ensures, used-places-le (c .before .args .level))
+array-borrow-prefix-picture c = omega (arith, c .picture-size .ensures, picture-size-le (c .before .args .level))
 
 slice-aggregate-greys : tie.Need-slice-aggregate-greys
 slice-aggregate-greys c =
-    let n = c .before .used-places .result in
+    let n = c .before .picture-size .result in
     sym (ap length (take-zeros n 4096 (array-borrow-prefix-picture (c .before))) ∙ zeros-length n)
 
 -- what `greys` answered and left
@@ -44,27 +45,27 @@ module _ (c : tie.After-greys) where
   table = start .args .table .now
 
   abbrev places : ℕ
-  places = c .before .before .used-places .result
+  places = c .before .before .picture-size .result
 
   places-le : places ≤ 4096
   places-le = array-borrow-prefix-picture (c .before .before)
 
-  part-is : take places (zeros 4096) ≡ zeros (usedPlaces level)
-  part-is = take-zeros places 4096 places-le ∙ ap zeros (c .before .before .used-places .ensures)
+  part-is : take places (zeros 4096) ≡ zeros (pictureSize level)
+  part-is = take-zeros places 4096 places-le ∙ ap zeros (c .before .before .picture-size .ensures)
 
   number-is : c .greys .result ≡ drawNumber side level table
-  number-is = c .greys .ensures .0 ∙ ap (λ l. drawRefusal side level table (length l)) part-is ∙ ap (drawRefusal side level table) (zeros-length (usedPlaces level))
+  number-is = c .greys .ensures .0 ∙ ap (λ l. drawRefusal side level table (length l)) part-is ∙ ap (drawRefusal side level table) (zeros-length (pictureSize level))
 
   abbrev left : List ℕ
   left = c .greys .last .1 .1 .1 .0
 
-  left-is : left ≡ greysOf side level table
+  left-is : left ≡ greysDrawn side level table
   left-is = c .greys .ensures .1 .0 ∙ ap (greysPicture side level table) part-is
 
 refused-requires : tie.Need-refused-requires
 refused-requires c κs =
     let g = c .before .before in
-    omega (arith, number-is g, draw-number-small (side g) (level g) (table g) (usedPlaces (level g)))
+    omega (arith, number-is g, draw-number-small (side g) (level g) (table g) (pictureSize (level g)))
 
 returns : tie.Need-returns
 returns c =
@@ -86,9 +87,9 @@ module _ (c : tie.Else1) where
   all-drawn = drawn (side after) (level after) (table after) done
 
   left-length : length (left after) ≡ places after
-  left-length = ap length (left-is after) ∙ all-drawn .greys-length ∙ sym (all-drawn .places) ∙ sym (after .before .before .used-places .ensures)
+  left-length = ap length (left-is after) ∙ all-drawn .greys-length ∙ sym (all-drawn .places) ∙ sym (after .before .before .picture-size .ensures)
 
-  picture-is : take (places after) (left after ++ drop (places after) (zeros 4096)) ≡ greysOf (side after) (level after) (table after)
+  picture-is : take (places after) (left after ++ drop (places after) (zeros 4096)) ≡ greysDrawn (side after) (level after) (table after)
   picture-is = take-at (left after) (drop (places after) (zeros 4096)) (places after) left-length ∙ left-is after
 
 shared-slice-copy-out-drawn : tie.Need-shared-slice-copy-out-drawn

@@ -15,8 +15,8 @@ use lib.Dec.{eqb, leb}
 use lib.ListN.{length, take, drop}
 use Rattle.integers.specs.Units.{textLimit}
 use Rattle.tile.specs.Questions.{every}
-use Rattle.frame.specs.Lines.{newline, longer, lines, closes}
-use Rattle.frame.specs.Reading.{isHead, isContour, areFrame, isFrame}
+use Rattle.frame.specs.Lines.{newline, intoFirstLine, lines, closes}
+use Rattle.frame.specs.Reading.{isHead, isContour, areFrameLines, isFrame}
 use Rattle.frame.specs.Inner.{lineLength, isBody}
 
 pub line-length-le : (t : List ℕ) → lineLength t ≤ length t
@@ -50,12 +50,12 @@ cut (b ∷ t) h = go (eqb b newline) refl h (cut t)
   where
     go : (e : Bool) → eqb b newline ≡ e → cond e 0 (suc (lineLength t)) < suc (length t) → (lineLength t < length t → Cut t (lineLength t))
         → Cut (b ∷ t) (cond e 0 (suc (lineLength t)))
-    go true e h further = record { lines-are = ap (λ x. cond x ([] ∷ lines t) (longer b (lines t))) e; closes-is = closes-newline b t e }
+    go true e h further = record { lines-are = ap (λ x. cond x ([] ∷ lines t) (intoFirstLine b (lines t))) e; closes-is = closes-newline b t e }
     go false e h further =
         let k : lineLength t < length t = omega arith in
         let c = further k in
         record {
-          lines-are = ap (λ x. cond x ([] ∷ lines t) (longer b (lines t))) e ∙ ap (longer b) (c .lines-are);
+          lines-are = ap (λ x. cond x ([] ∷ lines t) (intoFirstLine b (lines t))) e ∙ ap (intoFirstLine b) (c .lines-are);
           closes-is = closes-after b t (omega arith) ∙ c .closes-is;
         }
 
@@ -104,9 +104,9 @@ pub frame-cut : (t : List ℕ) → lineLength t < length t
 frame-cut t h =
     let n = lineLength t in
     ap (λ b. leb (length t) textLimit && b)
-    (ap₂ (λ a ls. a && areFrame ls) (closes-cut t h) (lines-cut t h) ∙ swap (closes (drop (suc n) t)) (isHead (take n t)) (every isContour (lines (drop (suc n) t))))
+    (ap₂ (λ a ls. a && areFrameLines ls) (closes-cut t h) (lines-cut t h) ∙ swap (closes (drop (suc n) t)) (isHead (take n t)) (every isContour (lines (drop (suc n) t))))
 
 pub frame-open : (t : List ℕ) → length t ≤ lineLength t → isFrame t ≡ false
 unfolding lines closes
 frame-open [] k = refl
-frame-open (b ∷ t) k = ap (λ a. leb (length (b ∷ t)) textLimit && (a && areFrame (lines (b ∷ t)))) (closes-open (b ∷ t) (omega arith) k) ∙ and-false (leb (length (b ∷ t)) textLimit)
+frame-open (b ∷ t) k = ap (λ a. leb (length (b ∷ t)) textLimit && (a && areFrameLines (lines (b ∷ t)))) (closes-open (b ∷ t) (omega arith) k) ∙ and-false (leb (length (b ∷ t)) textLimit)

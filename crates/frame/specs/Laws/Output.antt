@@ -1,12 +1,11 @@
 -- What the program's calls answer: numbers that two digits hold, and pictures and tables that its arrays hold.
 --
 -- Main results
---   used-places-le, used-entries-le        they are within the program's arrays
+--   picture-size-le, used-entries-le        they are within the program's arrays
 --   zeros-length, take-zeros               zeros
 --   draw-number-small, build-number-small  a refusal's number has two digits
 --   Drawn, drawn                           what is known where the greys are not refused
 --   table-length, built-table-length       building leaves as many entries
---   drawn-length, output-length            how long an answer is
 --   answer-holds, answer-printed           its first bytes are the text
 use mathlib.Core.Path.{_≡_, refl, sym, _∙_, ap, subst⁻¹}
 use mathlib.Core.Bool.{Bool, true, false, cond}
@@ -37,12 +36,13 @@ use Rattle.frame.specs.declared.Answer.{Answer}
 use Rattle.frame.specs.Frames.{Frame}
 use Rattle.frame.specs.Reading.{isFrame, frameOf}
 use Rattle.frame.specs.OutputLines.{refusalText, rowsText, summaryText}
-use Rattle.frame.specs.Output.{zeros, usedPlaces, drawNumber, greysOf, pictureText, drawnText, usedEntries, usedTable, buildNumber, builtTable, edgesBuilt, outputOf, outputText, answerLength, answerOf}
+use Rattle.frame.specs.Output.{zeros, answerLength, answerOf}
+use Rattle.frame.specs.Inner.{pictureSize, drawNumber, greysDrawn, pictureText, tableText, usedEntries, usedTable, buildNumber, builtTable, edgesBuilt, outlineText}
 use Rattle.frame.specs.Laws.Over.{over-front, over-room}
 use Rattle.frame.specs.Laws.Printing.{rows-text-length, summary-length, refusal-length}
 
-pub used-places-le : (level : ℕ) → usedPlaces level ≤ 4096
-used-places-le level = go (leb level greatestDepth) refl
+pub picture-size-le : (level : ℕ) → pictureSize level ≤ 4096
+picture-size-le level = go (leb level greatestDepth) refl
   where
     go : (b : Bool) → leb level greatestDepth ≡ b → cond b (4 ^ level) 0 ≤ 4096
     go true e = pow-le-pow-right {n = 4} (omega arith) {i = level} {j = 6} (leb-true level greatestDepth e)
@@ -93,18 +93,18 @@ build-number-small side points counts table = go (building-refusals side points 
 pub record Drawn (side level : ℕ) (table : List ℤ) : Type 0 where
   pub level-le : level ≤ greatestDepth
   pub across-le : 2 ^ level ≤ 64
-  pub places : usedPlaces level ≡ 4 ^ level
+  pub places : pictureSize level ≡ 4 ^ level
   pub has-root : 0 < length table
-  pub greys-length : length (greysOf side level table) ≡ 4 ^ level
-  pub rows : 2 ^ level * 2 ^ level ≡ length (greysOf side level table)
+  pub greys-length : length (greysDrawn side level table) ≡ 4 ^ level
+  pub rows : 2 ^ level * 2 ^ level ≡ length (greysDrawn side level table)
 
 pub drawn : (side level : ℕ) (table : List ℤ) → drawNumber side level table ≡ 0 → Drawn side level table
 drawn side level table e =
-    let d = drawable-picture side level table (usedPlaces level) e in
-    let size = zeros-length (usedPlaces level) in
-    let done : drawRefusal side level table (length (zeros (usedPlaces level))) ≡ 0 = ap (drawRefusal side level table) size ∙ e in
-    let g : length (greysOf side level table) ≡ 4 ^ level =
-    ap length (greys-drawn side level table (zeros (usedPlaces level)) done) ∙ picture-length dimensions (greyOf side) (stored dimensions table) level in
+    let d = drawable-picture side level table (pictureSize level) e in
+    let size = zeros-length (pictureSize level) in
+    let done : drawRefusal side level table (length (zeros (pictureSize level))) ≡ 0 = ap (drawRefusal side level table) size ∙ e in
+    let g : length (greysDrawn side level table) ≡ 4 ^ level =
+    ap length (greys-drawn side level table (zeros (pictureSize level)) done) ∙ picture-length dimensions (greyOf side) (stored dimensions table) level in
     record {
       level-le = d .drawable .shallow;
       across-le = pow-mono (d .drawable .shallow);
@@ -127,31 +127,7 @@ table-length side points counts table = go (buildRefusal side points counts tabl
 pub built-table-length : (f : Frame) (table : List ℤ) → length (builtTable f table) ≡ length (usedTable f table)
 built-table-length f table = table-length (f .side) (f .points) (f .counts) (usedTable f table)
 
--- ---- the answer
-pub drawn-length : (side level edges : ℕ) (table : List ℤ) → length (drawnText side level edges table) ≤ answerLength
-drawn-length side level edges table = go (drawNumber side level table) refl
-  where
-    go : (number : ℕ) → drawNumber side level table ≡ number → length (ifDone number (pictureText side level edges table) (refusalText number)) ≤ answerLength
-    go zero e =
-        let d = drawn side level table e in
-        let text = rowsText (2 ^ level) (2 ^ level) (greysOf side level table) in
-        let n = rows-text-length (2 ^ level) (2 ^ level) (greysOf side level table) (omega (arith, d .rows)) in
-        let most = mul-le-mul {n₁ = 2 ^ level} {m₁ = 2 * 2 ^ level + 1} {n₂ = 64} {m₂ = 129} (d .across-le) (omega (arith, d .across-le)) in
-        omega (arith, length-append (summaryText edges (getD table 0 (pos 0))) text, summary-length edges (getD table 0 (pos 0)), n, most)
-    go (suc n) e = omega (arith, refusal-length (suc n))
-
-pub output-length : (t : List ℕ) (table : List ℤ) → length (outputText t table) ≤ answerLength
-output-length t table = go (isFrame t)
-  where
-    go : (b : Bool) → length (cond b (outputOf (frameOf t) table) (refusalText 11)) ≤ answerLength
-    go false = omega (arith, refusal-length 11)
-    go true = built (buildNumber (frameOf t) table)
-      where
-        built : (number : ℕ) → length (ifDone number (drawnText (frameOf t .side) (frameOf t .level) (edgesBuilt (frameOf t) table) (builtTable (frameOf t) table)) (refusalText number)) ≤ answerLength
-        built zero = drawn-length (frameOf t .side) (frameOf t .level) (edgesBuilt (frameOf t) table) (builtTable (frameOf t) table)
-        built (suc n) = omega (arith, refusal-length (suc n))
-
--- its first bytes are the text
+-- ---- the answer: its first bytes are the text
 pub answer-holds : (t : List ℕ) {r : Answer} → r ≡ answerOf t → r .len ≤ length (r .bytes)
 answer-holds t e = over-room t (zeros answerLength) (ap (λ r. r .len) e) (ap (λ r. r .bytes) e)
 

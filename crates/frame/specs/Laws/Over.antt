@@ -1,6 +1,7 @@
--- Writing over a list, piece by piece: what is still to be written from a place on.
+-- Writing over a list, piece by piece.
 --
 -- Main results
+--   overAt at new old          the old list with the new one written over it from a place on
 --   over-start                 before anything is written
 --   over-piece                 a piece is written from the place on: the rest goes after it
 --   written, written-length    the same of a list that a function left
@@ -15,7 +16,10 @@ use native.Mathlib.Numerals.{add-one}
 use native.Mathlib.Omega.{arith}
 use lib.ListN.{length, take, drop, set, length-append, length-drop, take-append-drop, drop-of-length-le}
 use lib.Seq.{take-at, drop-at, drop-drop, length-take-le, set-split, drop-append-add, drop-append-le, take-append-le}
-use Rattle.frame.specs.Over.{over, overAt}
+use Rattle.frame.specs.Over.{over}
+
+abbrev pub overAt : {A : Type 0} → ℕ → List A → List A → List A
+overAt at new old = take at old ++ over new (drop at old)
 
 module _ {A : Type 0} where
   pub over-length : (new old : List A) → length new ≤ length old → length (over new old) ≡ length old

@@ -4,6 +4,7 @@
 --   row-digits               in its row
 --   rows-from                the rows from one on
 --   picture-digits           in the picture
+--   row-end, picture-end     and where a row ends
 use mathlib.Core.Path.{_≡_, refl, sym, _∙_, ap, ap₂}
 use mathlib.Core.List.{List, [], _∷_, _++_}
 use Prim.Native.Nat.{ℕ, zero, suc, _+_, _*_, _-_, _<_, _≤_}
@@ -12,7 +13,7 @@ use native.Mathlib.Omega.{arith}
 use lib.ListN.{length, getD, take, drop, length-drop}
 use lib.Seq.{length-take-le, drop-drop, drop-append-add, getD-take, getD-drop}
 use Rattle.frame.specs.Digits.{hex}
-use Rattle.frame.specs.Lines.{lineText}
+use Rattle.frame.specs.Lines.{newline, lineText}
 use Rattle.frame.specs.OutputLines.{greyWidth, rowsText}
 use Rattle.frame.specs.Laws.Printing.{row-length}
 
@@ -58,3 +59,25 @@ picture-digits across cx cy picture h k r =
     ∙ ap (drop (2 * cx)) (rows-from across across cy picture (omega arith) r ∙ ap (λ i. rowsText across i (drop (cy * across) picture)) s))
     ∙ row-digits row cx (rowsText across (across - suc cy) (drop across (drop (cy * across) picture))) (omega (arith, n))
     ∙ ap (hex 2) (getD-take across (drop (cy * across) picture) cx 0 h ∙ getD-drop (cy * across) picture cx 0)
+
+-- ---- the end of a row
+pub row-end : (row rest : List ℕ) → getD (lineText greyWidth row ++ rest) (2 * length row) 0 ≡ newline
+unfolding lineText hex
+row-end [] rest = refl
+row-end (g ∷ row) rest =
+    let e : 2 * suc (length row) ≡ suc (suc (2 * length row)) = omega arith in
+    ap (λ n. getD (lineText greyWidth (g ∷ row) ++ rest) n 0) e ∙ row-end row rest
+
+pub picture-end : (across cy : ℕ) (picture : List ℕ) → cy < across → across * across ≤ length picture
+    → getD (rowsText across across picture) (cy * (2 * across + 1) + 2 * across) 0 ≡ newline
+unfolding rowsText
+picture-end across cy picture k r =
+    let below : cy * across + across ≤ across * across = omega (arith, suc-mul cy across, mul-le-mul-right across k) in
+    let s : across - cy ≡ suc (across - suc cy) = omega arith in
+    let row = take across (drop (cy * across) picture) in
+    let n : length row ≡ across = length-take-le across (drop (cy * across) picture) (omega (arith, length-drop (cy * across) picture)) in
+    let rest = rowsText across (across - suc cy) (drop across (drop (cy * across) picture)) in
+    sym (getD-drop (cy * (2 * across + 1)) (rowsText across across picture) (2 * across) 0)
+    ∙ ap (λ l. getD l (2 * across) 0) (rows-from across across cy picture (omega arith) r ∙ ap (λ i. rowsText across i (drop (cy * across) picture)) s)
+    ∙ ap (λ i. getD (lineText greyWidth row ++ rest) (2 * i) 0) (sym n)
+    ∙ row-end row rest

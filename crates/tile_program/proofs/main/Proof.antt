@@ -1,7 +1,6 @@
 -- The answer's bytes hold what is printed.
 use mathlib.Core.Path.{sym}
-use lib.IntN.{pos}
-use lib.ListN.{length, take, replicate}
+use lib.ListN.{length, take}
 use lib.Seq.{length-take-le}
 use borrow.Author.Needs.{needs}
 use Rattle.frame.specs.Output.{outputText}
@@ -12,7 +11,7 @@ use Rattle.tile_program.proofs.main.Tie as tie
 array-share-prefix-bytes : tie.Need-array-share-prefix-bytes
 array-share-prefix-bytes c =
     let read = c .before .before .before .before .before .read-full in
-    answer-holds (outputText (take (read .result) (read .last .1 .0)) (replicate 4096 (pos 0))) (c .before .draw .ensures .0)
+    answer-holds (outputText (take (read .result) (read .last .1 .0))) (c .before .draw .ensures .0)
 
 slice-aggregate-write-all : tie.Need-slice-aggregate-write-all
 slice-aggregate-write-all c =

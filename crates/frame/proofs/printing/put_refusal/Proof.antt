@@ -5,11 +5,11 @@ use Prim.Native.Nat.{ℕ, _/_, _%_, _≤_}
 use native.Mathlib.Omega.{arith}
 use lib.ListN.{length, set, length-set}
 use borrow.Author.Needs.{needs}
-use Rattle.frame.specs.Over.{over, overAt}
+use Rattle.frame.specs.Over.{over}
 use Rattle.frame.specs.Digits.{digitChar}
 use Rattle.frame.specs.Lines.{newline}
 use Rattle.frame.specs.OutputLines.{refusedWord, refusalText}
-use Rattle.frame.specs.Laws.Over.{written, written-length, over-entry, over-end}
+use Rattle.frame.specs.Laws.Over.{overAt, written, written-length, over-entry, over-end}
 use Rattle.frame.proofs.printing.put_refusal.Statement.{statement}
 use Rattle.frame.proofs.printing.put_refusal.Tie as tie
 

@@ -8,12 +8,12 @@ use lib.ListN.{length, getD, drop, length-set, drop-of-length-le}
 use lib.Seq.{drop-cons}
 use borrow.Author.Needs.{needs}
 use borrow.Rule.Slice.PartMut.{putMid}
-use Rattle.frame.specs.Over.{over, overAt}
+use Rattle.frame.specs.Over.{over}
 use Rattle.frame.specs.Digits.{hex}
 use Rattle.frame.specs.Lines.{newline, lineText}
 use Rattle.frame.specs.OutputLines.{greyWidth}
 use Rattle.frame.specs.Laws.Digits.{hex-length}
-use Rattle.frame.specs.Laws.Over.{written, written-length, set-over}
+use Rattle.frame.specs.Laws.Over.{overAt, written, written-length, set-over}
 use Rattle.frame.proofs.Parts.{part-length, part-over}
 use Rattle.frame.proofs.printing.put_row.Statement.{statement}
 use Rattle.frame.proofs.printing.put_row.Tie as tie

@@ -7,10 +7,10 @@ use native.Mathlib.Omega.{arith}
 use lib.ListN.{length, take, drop, length-drop}
 use lib.Seq.{drop-drop, length-take-le}
 use borrow.Author.Needs.{needs}
-use Rattle.frame.specs.Over.{over, overAt}
+use Rattle.frame.specs.Over.{over}
 use Rattle.frame.specs.Lines.{lineText}
 use Rattle.frame.specs.OutputLines.{greyWidth, rowsText}
-use Rattle.frame.specs.Laws.Over.{written, written-length, over-end}
+use Rattle.frame.specs.Laws.Over.{overAt, written, written-length, over-end}
 use Rattle.frame.specs.Laws.Printing.{rows-next, row-length}
 use Rattle.frame.proofs.Parts.{part-length, part-over}
 use Rattle.frame.proofs.printing.put_rows.Statement.{statement}

@@ -8,12 +8,12 @@ use lib.ListN.{length, take, drop, set, length-set}
 use mir.Facts.{toZ-ofZ}
 use borrow.Author.Needs.{needs}
 use borrow.Rule.Slice.PartMut.{putMid}
-use Rattle.frame.specs.Over.{over, overAt}
+use Rattle.frame.specs.Over.{over}
 use Rattle.frame.specs.Digits.{hex, twosComplement}
 use Rattle.frame.specs.Lines.{newline}
 use Rattle.frame.specs.OutputLines.{summaryText}
 use Rattle.frame.specs.Laws.Digits.{hex-length}
-use Rattle.frame.specs.Laws.Over.{written, written-length, over-entry, over-end}
+use Rattle.frame.specs.Laws.Over.{overAt, written, written-length, over-entry, over-end}
 use Rattle.frame.proofs.Parts.{part-over}
 use Rattle.frame.proofs.printing.put_summary.Statement.{statement}
 use Rattle.frame.proofs.printing.put_summary.Tie as tie

@@ -12,7 +12,7 @@ use borrow.Author.Needs.{needs}
 use borrow.Author.Tests.{le-leb, lt-leb, not-true, not-false}
 use Rattle.integers.specs.Units.{textLimit}
 use Rattle.frame.specs.Lines.{lines, closes}
-use Rattle.frame.specs.Reading.{isHead, areFrame, isFrame}
+use Rattle.frame.specs.Reading.{isHead, areFrameLines, isFrame}
 use Rattle.frame.specs.Inner.{lineLength, isBody}
 use Rattle.frame.specs.Laws.Lines.{line-length-le, frame-cut, frame-open}
 use Rattle.frame.proofs.Parts.{part-is}
@@ -22,7 +22,7 @@ use Rattle.frame.proofs.reading.is_frame.Tie as tie
 returns : tie.Need-returns
 returns c =
     let t = c .before .before .args .text .now in
-    sym (ap (λ b. b && (closes t && areFrame (lines t))) (lt-leb (length t) textLimit (c .if1 .taken)))
+    sym (ap (λ b. b && (closes t && areFrameLines (lines t))) (lt-leb (length t) textLimit (c .if1 .taken)))
 
 -- the first line
 module _ (c : tie.After-line-length) where

@@ -10,10 +10,10 @@ use mir.Syntax.{w64}
 use mir.Val.{toZ}
 use mir.Facts.{toZ-pos}
 use borrow.Author.Needs.{needs}
-use Rattle.frame.specs.Over.{over, overAt}
+use Rattle.frame.specs.Over.{over}
 use Rattle.frame.specs.Digits.{hexValue}
 use Rattle.frame.specs.Reading.{coordinates}
-use Rattle.frame.specs.Laws.Over.{over-entry, over-end}
+use Rattle.frame.specs.Laws.Over.{overAt, over-entry, over-end}
 use Rattle.frame.specs.Laws.Reading.{coordinates-next, coordinates-none}
 use Rattle.frame.proofs.reading.read_coordinates.Statement.{statement}
 use Rattle.frame.proofs.reading.read_coordinates.Tie as tie
