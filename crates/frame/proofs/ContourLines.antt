@@ -5,7 +5,7 @@
 --   LinesRead, lines-start               what the two lists hold when the lines up to a place are read
 --   line-closed                          the next line
 --   lines-step, lines-end                it is read; none is left
-use mathlib.Core.Path.{_≡_, refl, sym, _∙_, ap, ap₂, subst, subst⁻¹}
+use mathlib.Core.Path.{_≡_, refl, sym, _∙_, ap, ap₂, subst}
 use mathlib.Core.Bool.{true}
 use mathlib.Core.List.{List, [], _∷_, _++_}
 use Prim.Native.Nat.{ℕ, suc, _+_, _*_, _/_, _%_, _-_, _<_, _≤_}
@@ -19,8 +19,7 @@ use Rattle.frame.specs.Lines.{lines}
 use Rattle.frame.specs.Reading.{coordinates, allCoordinates}
 use Rattle.frame.specs.Inner.{lineLength, isBody, bodyCoordinates, bodyCounts, sizeOf}
 use Rattle.frame.specs.Laws.Over.{overAt, written, written-length, over-entry, over-end}
-use Rattle.frame.specs.Laws.Lines.{line-length-le}
-use Rattle.frame.specs.Laws.Reading.{Closed, closed, coordinates-length, body-coordinates-next, body-counts-next}
+use Rattle.frame.specs.Laws.Reading.{closed, coordinates-length, body-coordinates-next, body-counts-next}
 
 -- a text, and what the two lists held before
 module _ (body : List ℕ) (points₀ : List ℤ) (counts₀ : List ℕ) where

@@ -4,11 +4,10 @@
 --   FrameRefusals, frame-refusals     when each number is that of a text; no other is
 --   prints-refusal                    a refusal is printed where its number is the text's, and only there
 --   refused-keeps                     and the table keeps what it held
-use mathlib.Core.Path.{_≡_, refl, sym, _∙_, ap}
+use mathlib.Core.Path.{_≡_}
 use mathlib.Core.List.{List, [], _∷_}
 use mathlib.Core.Logic.{_↔_}
 use Prim.Native.Nat.{ℕ, _<_}
-use native.Mathlib.Omega.{arith}
 use lib.IntN.{ℤ}
 use Rattle.integers.specs.ListSum.{All}
 use Rattle.tile.specs.Questions.{Yes, No, DecidedBy, question1, question4, question5, question6, question7}
@@ -18,7 +17,7 @@ use Rattle.tile.specs.Laws.FirstNo.{each-number, firstNo-among}
 use Rattle.frame.specs.Over.{over}
 use Rattle.frame.specs.Reading.{question11, frameOf}
 use Rattle.frame.specs.OutputLines.{refusalText}
-use Rattle.frame.specs.Output.{frameQuestions, frameRefusal, frameTable, drawnText, outputText, tableAfter}
+use Rattle.frame.specs.Output.{frameQuestions, frameRefusal, frameTable, outputText, tableAfter}
 use Rattle.frame.specs.Laws.RefusalLines.{refusal-decides}
 
 pub record FrameRefusals (t : List ℕ) : Type 0 where

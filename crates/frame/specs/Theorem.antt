@@ -9,7 +9,7 @@ use mathlib.Core.List.{List, _++_}
 use Prim.Native.Nat.{ℕ, _+_, _*_, _^_, _<_, _≤_}
 use native.Mathlib.Omega.{arith}
 use lib.IntN.{ℤ, pos}
-use lib.ListN.{length, getD, take, drop, replicate, length-append, length-replicate}
+use lib.ListN.{length, getD, take, drop, length-append}
 use lib.Seq.{drop-append-add, getD-append-add, take-at}
 use Rattle.integers.specs.ListSum.{All}
 use Rattle.haar.specs.Greys.{grey, OneApart}
@@ -31,7 +31,7 @@ use Rattle.frame.specs.Lines.{newline}
 use Rattle.frame.specs.Frames.{Frame}
 use Rattle.frame.specs.Reading.{frameOf}
 use Rattle.frame.specs.OutputLines.{refusalText, rowsText, greyWidth, summaryText, summaryLength}
-use Rattle.frame.specs.Output.{frameQuestions, frameRefusal, frameTable, frameGreys, drawnText, outputText, tableLength, zeros, answerOf}
+use Rattle.frame.specs.Output.{frameQuestions, frameRefusal, frameTable, frameGreys, drawnText, outputText, zeros, answerOf}
 use Rattle.frame.specs.Refusals.{frame-refusals}
 use Rattle.frame.specs.Printed.{digitsAt, printedGrey, Printed, Answered}
 use Rattle.frame.specs.Inner.{pictureSize, drawNumber, greysDrawn, usedTable, buildNumber}
@@ -39,16 +39,10 @@ use Rattle.frame.specs.Laws.Digits.{value-hex}
 use Rattle.frame.specs.Laws.Printing.{summary-length, rows-text-length}
 use Rattle.frame.specs.Laws.Output.{Drawn, drawn, zeros-length, answer-printed}
 use Rattle.frame.specs.Laws.WrittenRead.{read-writable}
-use Rattle.frame.specs.Laws.FrameNumber.{buildQuestions, build-number-is, built-table, draw-number-is}
+use Rattle.frame.specs.Laws.FrameNumber.{blank, blank-length, buildQuestions, build-number-is, built-table, draw-number-is}
 use Rattle.frame.specs.Laws.PrintedGreys.{picture-digits, picture-end}
 
--- what the program's table held does not matter: zeros stand in for it
-abbrev blank : List ℤ
-blank = replicate tableLength (pos 0)
-
-blank-length : length blank ≡ tableLength
-blank-length = length-replicate tableLength (pos 0)
-
+-- what the program's table held does not matter: a blank one stands in for it
 module _ (t : List ℕ) (done : frameRefusal t ≡ 0) where
   abbrev f : Frame
   f = frameOf t

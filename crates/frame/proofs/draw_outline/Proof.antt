@@ -1,18 +1,17 @@
 -- Building, and then the greys of what it left.
-use mathlib.Core.Path.{_≡_, refl, sym, _∙_, ap, ap₂}
+use mathlib.Core.Path.{_≡_, sym, _∙_, ap, ap₂}
 use mathlib.Core.List.{List, _++_}
-use mathlib.Core.Logic.{_≢_}
-use Prim.Native.Nat.{ℕ, _≤_}
+use Prim.Native.Nat.{ℕ}
 use native.Mathlib.Omega.{arith}
 use lib.IntN.{ℤ}
 use lib.ListN.{length, take, drop, length-append}
 use lib.Seq.{take-at, length-take-le}
 use borrow.Author.Needs.{needs}
-use Rattle.tile.specs.Outcomes.{buildRefusal, buildResult, buildTable}
+use Rattle.tile.specs.Outcomes.{buildResult, buildTable}
 use Rattle.tile.specs.Laws.IfDone.{if-done, if-refused}
 use Rattle.frame.specs.Frames.{Frame, frame}
 use Rattle.frame.specs.OutputLines.{refusalText}
-use Rattle.frame.specs.Inner.{tableText, usedEntries, usedTable, builtTable, buildNumber, edgesBuilt, outlineText}
+use Rattle.frame.specs.Inner.{tableText, usedEntries, usedTable, builtTable, buildNumber, edgesBuilt}
 use Rattle.frame.specs.Output.{answerOf}
 use Rattle.frame.specs.Laws.Output.{used-entries-le, build-number-small, built-table-length}
 use Rattle.frame.proofs.draw_outline.Statement.{statement}

@@ -1,20 +1,18 @@
 -- The greys, or the number of their refusal.
-use mathlib.Core.Path.{_≡_, refl, sym, _∙_, ap, ap₂}
+use mathlib.Core.Path.{_≡_, sym, _∙_, ap, ap₂}
 use mathlib.Core.List.{List, _++_}
-use Prim.Native.Nat.{ℕ, _*_, _^_, _<_, _≤_}
+use Prim.Native.Nat.{ℕ, _*_, _^_, _≤_}
 use native.Mathlib.Omega.{arith}
 use lib.IntN.{ℤ, pos}
 use lib.ListN.{length, getD, take, drop, length-append}
-use lib.Seq.{take-at, length-take-le}
-use mir.Syntax.{w64}
-use mir.Val.{toZ, ofZ}
+use lib.Seq.{take-at}
 use borrow.Author.Needs.{needs}
 use Rattle.integers.specs.Bits.{field-is}
 use Rattle.tile.specs.Outcomes.{drawRefusal, greysPicture}
 use Rattle.tile.specs.Laws.IfDone.{if-done, if-refused}
 use Rattle.frame.specs.OutputLines.{refusalText, rowsText, summaryText}
 use Rattle.frame.specs.Output.{zeros, answerOf}
-use Rattle.frame.specs.Inner.{pictureSize, drawNumber, greysDrawn, pictureText, tableText}
+use Rattle.frame.specs.Inner.{pictureSize, drawNumber, greysDrawn, pictureText}
 use Rattle.frame.specs.Laws.Output.{picture-size-le, zeros-length, take-zeros, draw-number-small, Drawn, drawn}
 use Rattle.frame.proofs.draw_table.Statement.{statement}
 use Rattle.frame.proofs.draw_table.Tie as tie

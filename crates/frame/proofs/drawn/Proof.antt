@@ -15,7 +15,7 @@ use Rattle.frame.specs.declared.Answer.{Answer}
 use Rattle.frame.specs.Over.{over}
 use Rattle.frame.specs.OutputLines.{summaryText, rowsText}
 use Rattle.frame.specs.Output.{zeros}
-use Rattle.frame.specs.Laws.Over.{overAt, written, written-length}
+use Rattle.frame.specs.Laws.Over.{written, written-length}
 use Rattle.frame.specs.Laws.Output.{zeros-length}
 use Rattle.frame.specs.Laws.Printing.{summary-length, rows-text-length}
 use Rattle.frame.proofs.Parts.{part-over, part-length}

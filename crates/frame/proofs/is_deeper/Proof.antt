@@ -1,5 +1,5 @@
 -- Past the greatest depth it is; else the cells across decide.
-use mathlib.Core.Path.{_≡_, sym, _∙_, ap}
+use mathlib.Core.Path.{sym, _∙_, ap}
 use mathlib.Core.Bool.{_||_}
 use Prim.Native.Nat.{_^_}
 use lib.Dec.{ltb}

@@ -1,17 +1,16 @@
 -- Building's number, or 7.
 use mathlib.Core.Path.{_≡_, sym, _∙_, ap}
-use mathlib.Core.List.{List}
 use Prim.Native.Nat.{ℕ, _≤_}
 use native.Mathlib.Omega.{arith}
-use lib.IntN.{ℤ, pos}
+use lib.IntN.{pos}
 use lib.ListN.{length, take, replicate, length-replicate}
 use lib.Seq.{length-take-le}
 use borrow.Author.Needs.{needs}
-use Rattle.tile.specs.Outcomes.{buildRefusal, buildResult}
+use Rattle.tile.specs.Outcomes.{buildRefusal}
 use Rattle.tile.specs.Laws.IfDone.{if-done, if-refused}
 use Rattle.frame.specs.OutputLines.{refusalText}
 use Rattle.frame.specs.Output.{tableLength, answerOf}
-use Rattle.frame.specs.Inner.{usedEntries, levelRefusal}
+use Rattle.frame.specs.Inner.{usedEntries}
 use Rattle.frame.specs.Laws.Output.{used-entries-le, build-number-small}
 use Rattle.frame.proofs.refused_level.Statement.{statement}
 use Rattle.frame.proofs.refused_level.Tie as tie

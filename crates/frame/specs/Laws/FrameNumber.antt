@@ -1,6 +1,7 @@
 -- The questions that a frame can fail: those that the program's own arrays and the frame's own lines decide are answered yes.
 --
 -- Main results
+--   blank, blank-length          a table of zeros
 --   build-number-is              building's refusal
 --   draw-number-is               and that of the greys, where building is done
 --   outline-number               so that of a frame
@@ -16,7 +17,7 @@ use native.Mathlib.Omega.{arith}
 use lib.Dec.{leb, ltb, lit<}
 use lib.Pow.{pow-mono}
 use lib.IntN.{ℤ, pos}
-use lib.ListN.{length, getD, take, drop, replicate, length-replicate, take-append-drop}
+use lib.ListN.{length, getD, drop, replicate, length-replicate, take-append-drop}
 use lib.Seq.{length-take-le}
 use borrow.Author.Tests.{le-leb, le-ltb, ltb-false}
 use Rattle.integers.specs.Units.{greatestSide, greatestDepth}
@@ -36,6 +37,13 @@ use Rattle.frame.specs.OutputLines.{refusalText, summaryText, rowsText}
 use Rattle.frame.specs.Output.{zeros, tableLength, frameTable, drawnText}
 use Rattle.frame.specs.Inner.{pictureSize, drawNumber, pictureText, tableText, usedEntries, usedTable, buildNumber, builtTable, edgesBuilt, outlineText, outlineRefusal, frameOutput, frameTableAfter, isDeeper, levelRefusal}
 use Rattle.frame.specs.Laws.Output.{used-entries-le, zeros-length}
+
+-- a table of zeros
+abbrev pub blank : List ℤ
+blank = replicate tableLength (pos 0)
+
+pub blank-length : length blank ≡ tableLength
+blank-length = length-replicate tableLength (pos 0)
 
 -- ---- a question that is answered yes, whenever one before it is
 skip : (q r : Question) (qs : List Question) → (Yes q → Yes r) → firstNo (q ∷ r ∷ qs) ≡ firstNo (q ∷ qs)
@@ -189,13 +197,7 @@ module _ (f : Frame) (w : length (f .points) ≡ 2 * edgeCount (f .counts)) (tab
           ∙ sym (if-refused (over (frameTable f) table) table (nonzero some))
 
 -- ---- a level that the tile does not have
-abbrev blank : List ℤ
-blank = replicate tableLength (pos 0)
-
 module _ (f : Frame) (w : length (f .points) ≡ 2 * edgeCount (f .counts)) (d : isDeeper (f .side) (f .level) ≡ true) where
-  blank-length : length blank ≡ tableLength
-  blank-length = length-replicate tableLength (pos 0)
-
   pub level-refusal-is : levelRefusal (f .side) (f .points) (f .counts) ≡ outlineRefusal f
   level-refusal-is = go (buildNumber f blank) refl ∙ sym (outline-number f w blank blank-length)
     where

@@ -6,7 +6,7 @@
 --   closes-open                        a text of one line that is not closed
 --   body-cut, body-open                so of the text after a frame's first line
 --   frame-cut                          and of a frame
-use mathlib.Core.Path.{_≡_, refl, sym, _∙_, ap, ap₂}
+use mathlib.Core.Path.{_≡_, refl, _∙_, ap, ap₂}
 use mathlib.Core.Bool.{Bool, true, false, cond, _&&_}
 use mathlib.Core.List.{List, [], _∷_}
 use Prim.Native.Nat.{ℕ, suc, _<_, _≤_}

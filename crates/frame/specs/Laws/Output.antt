@@ -3,43 +3,40 @@
 -- Main results
 --   picture-size-le, used-entries-le        they are within the program's arrays
 --   zeros-length, take-zeros               zeros
+--   first-below                            a list of questions whose numbers are below k refuses with none from k on
 --   draw-number-small, build-number-small  a refusal's number has two digits
 --   Drawn, drawn                           what is known where the greys are not refused
 --   table-length, built-table-length       building leaves as many entries
 --   answer-holds, answer-printed           its first bytes are the text
-use mathlib.Core.Path.{_≡_, refl, sym, _∙_, ap, subst⁻¹}
+use mathlib.Core.Path.{_≡_, refl, sym, _∙_, ap}
 use mathlib.Core.Bool.{Bool, true, false, cond}
-use mathlib.Core.List.{List, [], _∷_, _++_}
-use mathlib.Core.Logic.{inl, inr}
-use Prim.Native.Nat.{ℕ, zero, suc, _+_, _*_, _^_, _<_, _≤_}
+use mathlib.Core.List.{List, [], _∷_}
+use Prim.Native.Nat.{ℕ, zero, suc, _*_, _^_, _<_, _≤_}
 use native.Mathlib.Nat.{mul-le-mul, pow-le-pow-right, one-le-pow}
-use native.Mathlib.Decide.{decLt, decLe}
 use native.Mathlib.Omega.{arith}
-use lib.Dec.{eqb, leb, lit<}
+use lib.Dec.{leb, lit<}
 use lib.Pow.{pow-mono}
-use lib.IntN.{ℤ, pos}
-use lib.ListN.{length, getD, take, drop, replicate, length-append, length-replicate}
-use borrow.Author.Tests.{le-leb, leb-true}
+use lib.IntN.{ℤ}
+use lib.ListN.{length, take, length-replicate}
+use borrow.Author.Tests.{leb-true}
 use Rattle.integers.specs.Units.{greatestSide, greatestDepth}
+use Rattle.integers.specs.ListSum.{All}
 use Rattle.haar.specs.Greys.{greyOf}
-use Rattle.haar.specs.Plane.{dimensions, pictureIn}
+use Rattle.haar.specs.Plane.{dimensions}
 use Rattle.haar.specs.Table.{stored}
 use Rattle.haar.specs.Laws.Cells.{level-square}
 use Rattle.haar.specs.Laws.Pictures.{picture-length}
-use Rattle.tile.specs.Outcomes.{ifDone, buildRefusal, buildTable, drawRefusal, greysPicture}
-use Rattle.tile.specs.Refusals.{building-refusals, drawing-refusals, question2-means, refused-table}
+use Rattle.tile.specs.Questions.{Question, firstNo, buildingQuestions, drawingQuestions}
+use Rattle.tile.specs.Outcomes.{buildRefusal, buildTable, drawRefusal}
+use Rattle.tile.specs.Refusals.{building-refusals, question2-means, refused-table}
 use Rattle.tile.specs.TableEntries.{built-length}
 use Rattle.tile.specs.DrawnFigures.{greys-drawn}
-use Rattle.tile.specs.Laws.Tests.{OneOf}
 use Rattle.tile.specs.Laws.Answers.{drawable-picture}
 use Rattle.frame.specs.declared.Answer.{Answer}
 use Rattle.frame.specs.Frames.{Frame}
-use Rattle.frame.specs.Reading.{isFrame, frameOf}
-use Rattle.frame.specs.OutputLines.{refusalText, rowsText, summaryText}
 use Rattle.frame.specs.Output.{zeros, answerLength, answerOf}
-use Rattle.frame.specs.Inner.{pictureSize, drawNumber, greysDrawn, pictureText, tableText, usedEntries, usedTable, buildNumber, builtTable, edgesBuilt, outlineText}
+use Rattle.frame.specs.Inner.{pictureSize, drawNumber, greysDrawn, usedEntries, usedTable, builtTable}
 use Rattle.frame.specs.Laws.Over.{over-front, over-room}
-use Rattle.frame.specs.Laws.Printing.{rows-text-length, summary-length, refusal-length}
 
 pub picture-size-le : (level : ℕ) → pictureSize level ≤ 4096
 picture-size-le level = go (leb level greatestDepth) refl
@@ -64,30 +61,21 @@ take-zeros (suc n) zero h = absurd (omega arith)
 take-zeros (suc n) (suc m) h = ap (λ l. 0 ∷ l) (take-zeros n m (omega arith))
 
 -- ---- numbers
-pub draw-number-small : (side level : ℕ) (table : List ℤ) (size : ℕ) → drawRefusal side level table size < 100
-draw-number-small side level table size = go (drawing-refusals side level table size .no-other)
+pub first-below : (k : ℕ) (qs : List Question) → 0 < k → All (λ q. q .number < k) qs → firstNo qs < k
+first-below k [] z h = z
+first-below k (q ∷ qs) z h = go (q .answer) (first-below k qs z (h .1))
   where
-    go : {n : ℕ} → OneOf n (0 ∷ 1 ∷ 2 ∷ 7 ∷ 8 ∷ 9 ∷ []) → n < 100
-    go (inl e) = omega arith
-    go (inr (inl e)) = omega arith
-    go (inr (inr (inl e))) = omega arith
-    go (inr (inr (inr (inl e)))) = omega arith
-    go (inr (inr (inr (inr (inl e))))) = omega arith
-    go (inr (inr (inr (inr (inr (inl e)))))) = omega arith
-    go (inr (inr (inr (inr (inr (inr e)))))) = absurd e
+    go : (b : Bool) → firstNo qs < k → cond b (firstNo qs) (q .number) < k
+    go true i = i
+    go false i = h .0
+
+pub draw-number-small : (side level : ℕ) (table : List ℤ) (size : ℕ) → drawRefusal side level table size < 100
+draw-number-small side level table size =
+    first-below 100 (drawingQuestions side level table size) (lit< tt) (lit< tt, (lit< tt, (lit< tt, (lit< tt, (lit< tt, tt)))))
 
 pub build-number-small : (side : ℕ) (points : List ℤ) (counts : List ℕ) (table : List ℤ) → buildRefusal side points counts table < 100
-build-number-small side points counts table = go (building-refusals side points counts table .no-other)
-  where
-    go : {n : ℕ} → OneOf n (0 ∷ 1 ∷ 2 ∷ 4 ∷ 5 ∷ 3 ∷ 6 ∷ []) → n < 100
-    go (inl e) = omega arith
-    go (inr (inl e)) = omega arith
-    go (inr (inr (inl e))) = omega arith
-    go (inr (inr (inr (inl e)))) = omega arith
-    go (inr (inr (inr (inr (inl e))))) = omega arith
-    go (inr (inr (inr (inr (inr (inl e)))))) = omega arith
-    go (inr (inr (inr (inr (inr (inr (inl e))))))) = omega arith
-    go (inr (inr (inr (inr (inr (inr (inr e))))))) = absurd e
+build-number-small side points counts table =
+    first-below 100 (buildingQuestions side points counts table) (lit< tt) (lit< tt, (lit< tt, (lit< tt, (lit< tt, (lit< tt, (lit< tt, tt))))))
 
 -- ---- greys that are not refused
 pub record Drawn (side level : ℕ) (table : List ℤ) : Type 0 where

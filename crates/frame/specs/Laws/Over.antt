@@ -2,7 +2,6 @@
 --
 -- Main results
 --   overAt at new old          the old list with the new one written over it from a place on
---   over-start                 before anything is written
 --   over-piece                 a piece is written from the place on: the rest goes after it
 --   written, written-length    the same of a list that a function left
 --   set-over, over-entry       one entry
@@ -11,11 +10,11 @@
 --   over-front, over-room      what was written stands at the start
 use mathlib.Core.Path.{_≡_, refl, sym, _∙_, ap, ap₂}
 use mathlib.Core.List.{List, [], _∷_, _++_, append-assoc}
-use Prim.Native.Nat.{ℕ, suc, _+_, _<_, _≤_}
+use Prim.Native.Nat.{ℕ, _+_, _<_, _≤_}
 use native.Mathlib.Numerals.{add-one}
 use native.Mathlib.Omega.{arith}
-use lib.ListN.{length, take, drop, set, length-append, length-drop, take-append-drop, drop-of-length-le}
-use lib.Seq.{take-at, drop-at, drop-drop, length-take-le, set-split, drop-append-add, drop-append-le, take-append-le}
+use lib.ListN.{length, take, drop, set, length-append, length-drop, take-append-drop}
+use lib.Seq.{take-at, drop-at, drop-drop, length-take-le, set-split}
 use Rattle.frame.specs.Over.{over}
 
 abbrev pub overAt : {A : Type 0} → ℕ → List A → List A → List A
@@ -32,17 +31,11 @@ module _ {A : Type 0} where
   pub over-room : (new old : List A) {n : ℕ} {l : List A} → n ≡ length new → l ≡ over new old → n ≤ length l
   over-room new old e w = omega (arith, ap length w, length-append new (drop (length new) old))
 
-  pub over-start : (new old : List A) → overAt 0 new old ≡ over new old
-  over-start new old = refl
-
   pub over-end : (at : ℕ) (old : List A) → overAt at [] old ≡ old
   over-end at old = take-append-drop at old
 
   -- the list with a piece written at a place, read from there and from after the piece
   module _ (at : ℕ) (piece old : List A) (h : at ≤ length old) where
-    pub take-over : take at (overAt at piece old) ≡ take at old
-    take-over = take-at (take at old) (over piece (drop at old)) at (length-take-le at old h)
-
     front : List A
     front = take at old ++ piece
 

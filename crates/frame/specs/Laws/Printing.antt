@@ -1,9 +1,9 @@
 -- How long what is printed is, and a picture's lines, row by row.
 --
 -- Main results
---   line-text-length, rows-text-length, refusal-length, summary-length     lengths
+--   line-text-length, row-length, rows-text-length, summary-length     lengths
 --   rows-next                                                               a picture's first row, and the others
-use mathlib.Core.Path.{_≡_, refl, sym, _∙_, ap}
+use mathlib.Core.Path.{_≡_, refl, _∙_}
 use mathlib.Core.List.{List, [], _∷_, _++_}
 use Prim.Native.Nat.{ℕ, zero, suc, _+_, _*_, _≤_}
 use native.Mathlib.Nat.{suc-mul}
@@ -13,7 +13,7 @@ use lib.ListN.{length, take, drop, length-append, length-drop}
 use lib.Seq.{length-take-le}
 use Rattle.frame.specs.Digits.{hex, twosComplement}
 use Rattle.frame.specs.Lines.{newline, lineText}
-use Rattle.frame.specs.OutputLines.{refusalText, greyWidth, rowsText, summaryText}
+use Rattle.frame.specs.OutputLines.{greyWidth, rowsText, summaryText}
 use Rattle.frame.specs.Laws.Digits.{hex-length}
 
 pub line-text-length : (width : ℕ) (ns : List ℕ) → length (lineText width ns) ≡ length ns * width + 1
@@ -43,9 +43,6 @@ rows-text-length across (suc rows) picture h =
       rows-text-length across rows (drop across picture) (omega (arith, length-drop across picture)),
       suc-mul rows (2 * across + 1),
     )
-
-pub refusal-length : (number : ℕ) → length (refusalText number) ≡ 11
-refusal-length number = refl
 
 pub summary-length : (edges : ℕ) (root : ℤ) → length (summaryText edges root) ≡ 21
 summary-length edges root =

@@ -5,17 +5,17 @@
 --   lines-line, closes-line          lines are where they were printed
 --   written-is-frame                 what is printed of a frame passes question 11
 --   written-frame                    and what is read of it is the frame
-use mathlib.Core.Path.{_≡_, refl, sym, _∙_, ap, ap₂, subst}
+use mathlib.Core.Path.{_≡_, refl, sym, _∙_, ap, ap₂}
 use mathlib.Core.Bool.{Bool, true, false, cond, _&&_, true≢false}
 use mathlib.Core.List.{List, [], _∷_, _++_, map, append-assoc}
-use Prim.Native.Nat.{ℕ, zero, suc, _+_, _*_, _/_, _%_, _^_, _<_, _≤_}
+use Prim.Native.Nat.{ℕ, suc, _+_, _*_, _/_, _%_, _<_, _≤_}
 use native.Mathlib.Nat.{suc-mul, mul-div-cancel, mul-mod-left}
 use native.Mathlib.Omega.{arith}
-use lib.Dec.{eqb, leb, ltb}
+use lib.Dec.{eqb}
 use lib.IntN.{ℤ, pos, negsuc, natAbs}
 use lib.Signed.{_≤ℤ_}
 use lib.ListN.{length, take, drop, length-append, length-drop, take-append-drop}
-use lib.Seq.{length-take-le, take-append-le}
+use lib.Seq.{length-take-le}
 use borrow.Author.Tests.{eqb-true, eq-eqb, le-leb, lt-ltb}
 use Rattle.integers.specs.Units.{textLimit}
 use Rattle.integers.specs.ListSum.{All, all-take, all-drop, tally}
@@ -24,7 +24,7 @@ use Rattle.tile.specs.Questions.{every}
 use Rattle.frame.specs.Digits.{isDigit, indexOf, hex, hexValue}
 use Rattle.frame.specs.Lines.{newline, intoFirstLine, lines, closes, lineText}
 use Rattle.frame.specs.Frames.{Frame, frame, headWidth, coordinateWidth, contourText, frameText, Sayable, Writable}
-use Rattle.frame.specs.Reading.{isHead, isContour, areFrameLines, isFrame, coordinates, allCoordinates, pointCount, firstLine, otherLines, frameOf}
+use Rattle.frame.specs.Reading.{isContour, areFrameLines, isFrame, coordinates, allCoordinates, pointCount, firstLine, otherLines, frameOf}
 use Rattle.frame.specs.Laws.Digits.{hex-length, hex-digits, value-hex, every-append}
 use Rattle.frame.specs.Laws.Lines.{closes-newline, closes-after}
 use Rattle.frame.specs.Laws.Reading.{both}

@@ -3,6 +3,8 @@
 -- Main results
 --   coordinates-next, coordinates-none     the numbers of a line, one after the other
 --   coordinates-length                     how many there are
+--   both                                   two tests that hold together
+--   ContourLine, contour-line              a contour's line
 --   Closed, closed                         a line of a text after a frame's first line: it is closed, and a contour's; and the text after it is so formed
 --   body-coordinates-next, body-counts-next   what is read of it and of the lines after it
 --   Framed, framed                         a frame's first line, and the text after it
@@ -10,11 +12,11 @@
 use mathlib.Core.Path.{_≡_, refl, sym, _∙_, ap, ap₂, subst}
 use mathlib.Core.Bool.{Bool, true, false, _&&_, true≢false}
 use mathlib.Core.List.{List, [], _∷_, _++_, map}
-use Prim.Native.Nat.{ℕ, suc, _+_, _*_, _/_, _%_, _<_, _≤_}
+use Prim.Native.Nat.{ℕ, suc, _+_, _/_, _%_, _<_, _≤_}
 use native.Mathlib.Decide.{decLt}
 use native.Mathlib.Omega.{arith}
 use lib.Dec.{eqb, leb, ltb}
-use lib.IntN.{ℤ, pos}
+use lib.IntN.{pos}
 use lib.ListN.{length, take, drop}
 use lib.Seq.{length-take-le}
 use borrow.Author.Tests.{eqb-true, leb-true, ltb-true}
@@ -57,6 +59,18 @@ coordinates-length (a ∷ b ∷ c ∷ d ∷ l) = omega (arith, coordinates-lengt
 pub both : (a b : Bool) → (a && b) ≡ true → (a ≡ true) × (b ≡ true)
 both a b e = and-means a b {P = a ≡ true} {Q = b ≡ true} (λ x. x, λ x. x) (λ x. x, λ x. x) .0 e
 
+-- ---- a contour's line
+pub record ContourLine (l : List ℕ) : Type 0 where
+  pub some : 0 < length l
+  pub eights : length l % 8 ≡ 0
+  pub digits : every isDigit l ≡ true
+
+pub contour-line : (l : List ℕ) → isContour l ≡ true → ContourLine l
+contour-line l e =
+    let p = both (ltb 0 (length l)) (eqb (length l % 8) 0 && every isDigit l) e in
+    let q = both (eqb (length l % 8) 0) (every isDigit l) (p .1) in
+    record { some = ltb-true 0 (length l) (p .0); eights = eqb-true (length l % 8) 0 (q .0); digits = q .1 }
+
 -- ---- a line of a text after a frame's first line
 pub record Closed (t : List ℕ) : Type 0 where
   pub closed : lineLength t < length t
@@ -71,13 +85,12 @@ closed t h e = elim (decLt (lineLength t) (length t)) [ yes k ↦ go k | no k �
     go k =
         let line = take (lineLength t) t in
         let b = both (isContour line) (isBody (drop (suc (lineLength t)) t)) (sym (body-cut t k) ∙ e) in
-        let p = both (ltb 0 (length line)) (eqb (length line % 8) 0 && every isDigit line) (b .0) in
-        let q = both (eqb (length line % 8) 0) (every isDigit line) (p .1) in
+        let c = contour-line line (b .0) in
         let n : length line ≡ lineLength t = length-take-le (lineLength t) t (line-length-le t) in
         record {
           closed = k;
-          some = subst (λ m. 0 < m) n (ltb-true 0 (length line) (p .0));
-          points = subst (λ m. m % 8 ≡ 0) n (eqb-true (length line % 8) 0 (q .0));
+          some = subst (λ m. 0 < m) n (c .some);
+          points = subst (λ m. m % 8 ≡ 0) n (c .eights);
           rest = b .1;
         }
 

@@ -4,26 +4,25 @@
 --   refusal-injective        numbers of two digits with the same line are the same
 --   drawn-no-refusal         what is printed of a picture begins with a digit, and no refusal does
 --   refusal-decides          so the line that is printed says which number was the text's
-use mathlib.Core.Path.{_≡_, refl, sym, _∙_, ap, subst}
-use mathlib.Core.Bool.{true, false, true≢false}
-use mathlib.Core.List.{List, [], _∷_}
-use mathlib.Core.Logic.{_↔_, inl, inr}
+use mathlib.Core.Path.{_≡_, sym, _∙_, ap}
+use mathlib.Core.Bool.{true≢false}
+use mathlib.Core.List.{List}
+use mathlib.Core.Logic.{_↔_}
 use Prim.Native.Nat.{ℕ, zero, suc, _/_, _%_, _<_}
 use native.Mathlib.Nat.{mod-lt}
 use native.Mathlib.Omega.{arith}
-use lib.IntN.{ℤ}
+use lib.Dec.{lit<}
 use lib.ListN.{getD}
 use Rattle.accuracy.specs.Outline.{edgeCount}
 use Rattle.tile.specs.Outcomes.{ifDone}
-use Rattle.tile.specs.Laws.Tests.{OneOf}
-use Rattle.tile.specs.Laws.FirstNo.{firstNo-among}
-use Rattle.tile.specs.Laws.IfDone.{if-done, if-refused}
+use Rattle.tile.specs.Laws.IfDone.{if-refused}
 use Rattle.frame.specs.Digits.{indexOf, digitChar, digitValue, isDigit, hex}
 use Rattle.frame.specs.Frames.{Frame}
 use Rattle.frame.specs.Reading.{frameOf}
 use Rattle.frame.specs.OutputLines.{refusalText}
 use Rattle.frame.specs.Output.{frameQuestions, frameRefusal, drawnText, outputText}
 use Rattle.frame.specs.Laws.Digits.{digit-value-char, digit-char-digit}
+use Rattle.frame.specs.Laws.Output.{first-below}
 
 digit-injective : (m n : ℕ) → m < 16 → n < 16 → digitChar m ≡ digitChar n → m ≡ n
 digit-injective m n h k e = sym (digit-value-char m h) ∙ ap digitValue e ∙ digit-value-char n k
@@ -40,21 +39,11 @@ drawn-no-refusal f n e =
     let first = edgeCount (f .counts) / 16 / 16 / 16 % 16 in
     true≢false (sym (digit-char-digit first (mod-lt (edgeCount (f .counts) / 16 / 16 / 16) (omega arith))) ∙ ap (λ l. isDigit (getD l 0 0)) e)
 
-among : {n : ℕ} → OneOf n (0 ∷ 11 ∷ 1 ∷ 4 ∷ 5 ∷ 6 ∷ 7 ∷ []) → n < 100
-among (inl e) = omega arith
-among (inr (inl e)) = omega arith
-among (inr (inr (inl e))) = omega arith
-among (inr (inr (inr (inl e)))) = omega arith
-among (inr (inr (inr (inr (inl e))))) = omega arith
-among (inr (inr (inr (inr (inr (inl e)))))) = omega arith
-among (inr (inr (inr (inr (inr (inr (inl e))))))) = omega arith
-among (inr (inr (inr (inr (inr (inr (inr e))))))) = absurd e
-
 pub refusal-decides : (t : List ℕ) (number : ℕ) → 0 < number → number < 100 → (outputText t ≡ refusalText number) ↔ (frameRefusal t ≡ number)
 refusal-decides t number h k = (to, back)
   where
     small : frameRefusal t < 100
-    small = among (firstNo-among (frameQuestions t))
+    small = first-below 100 (frameQuestions t) (lit< tt) (lit< tt, (lit< tt, (lit< tt, (lit< tt, (lit< tt, (lit< tt, tt))))))
 
     at : (m : ℕ) → m < 100 → ifDone m (drawnText (frameOf t)) (refusalText m) ≡ refusalText number → m ≡ number
     at zero s e = absurd (drawn-no-refusal (frameOf t) number e)

@@ -6,26 +6,26 @@
 --   read-writable                    and its numbers have as many digits as they get
 use mathlib.Core.Path.{_≡_, refl, sym, _∙_, ap, ap₂, subst, subst⁻¹}
 use mathlib.Core.Bool.{Bool, true, false, cond, _&&_, true≢false}
-use mathlib.Core.List.{List, [], _∷_, _++_, map, append-assoc}
-use Prim.Native.Nat.{ℕ, _-_, _*_, _/_, _%_, _^_, _<_}
+use mathlib.Core.List.{List, [], _∷_, _++_, map}
+use Prim.Native.Nat.{ℕ, _-_, _*_, _%_, _^_, _<_}
 use native.Mathlib.Omega.{arith}
-use lib.Dec.{eqb, leb, ltb}
-use lib.IntN.{ℤ, pos, natAbs}
+use lib.Dec.{eqb, leb}
+use lib.IntN.{natAbs}
 use lib.ListN.{length, take, drop, length-append, length-drop, take-append-drop}
 use lib.Seq.{take-at, drop-at, length-take-le}
-use borrow.Author.Tests.{eqb-true, eqb-false, ltb-true}
+use borrow.Author.Tests.{eqb-true}
 use Rattle.integers.specs.Units.{textLimit}
 use Rattle.integers.specs.Order.{nonneg}
 use Rattle.integers.specs.ListSum.{All, all-append, tally}
 use Rattle.accuracy.specs.Outline.{edgeCount}
 use Rattle.tile.specs.Questions.{every}
-use Rattle.frame.specs.Digits.{isDigit, hex, hexValue}
+use Rattle.frame.specs.Digits.{isDigit, hexValue}
 use Rattle.frame.specs.Lines.{newline, intoFirstLine, lines, closes, lineText}
 use Rattle.frame.specs.Frames.{Frame, frame, headWidth, coordinateWidth, contourText, frameText, Sayable, Writable}
 use Rattle.frame.specs.Reading.{isContour, areFrameLines, isFrame, coordinates, allCoordinates, pointCount, firstLine, otherLines, frameOf}
 use Rattle.frame.specs.Laws.Digits.{hex-value, value-lt, every-append}
 use Rattle.frame.specs.Laws.Lines.{closes-newline, closes-after}
-use Rattle.frame.specs.Laws.Reading.{both, coordinates-length, Framed, framed}
+use Rattle.frame.specs.Laws.Reading.{both, ContourLine, contour-line, coordinates-length, Framed, framed}
 use Rattle.frame.specs.Laws.ReadWritten.{allHex, line-text-is}
 
 -- ---- lines
@@ -65,17 +65,6 @@ read-hex (a ∷ b ∷ c ∷ x ∷ l) d e =
     ap₂ _++_ (hex-value (a ∷ b ∷ c ∷ x ∷ []) (p .0)) (read-hex l (p .1) (omega arith))
 
 -- ---- a contour's line
-record ContourLine (l : List ℕ) : Type 0 where
-  some : 0 < length l
-  eights : length l % 8 ≡ 0
-  digits : every isDigit l ≡ true
-
-contour-line : (l : List ℕ) → isContour l ≡ true → ContourLine l
-contour-line l e =
-    let p = both (ltb 0 (length l)) (eqb (length l % 8) 0 && every isDigit l) e in
-    let q = both (eqb (length l % 8) 0) (every isDigit l) (p .1) in
-    record { some = ltb-true 0 (length l) (p .0); eights = eqb-true (length l % 8) 0 (q .0); digits = q .1 }
-
 -- two coordinates for each of its points
 two-each : (l : List ℕ) → ContourLine l → length (coordinates l) ≡ 2 * pointCount l
 two-each l c = coordinates-length l ∙ omega (arith, c .eights)

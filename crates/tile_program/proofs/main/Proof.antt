@@ -1,6 +1,6 @@
 -- The answer's bytes hold what is printed.
 use mathlib.Core.Path.{sym}
-use lib.ListN.{length, take}
+use lib.ListN.{take}
 use lib.Seq.{length-take-le}
 use borrow.Author.Needs.{needs}
 use Rattle.frame.specs.Output.{outputText}

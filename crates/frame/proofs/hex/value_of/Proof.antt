@@ -7,7 +7,7 @@ use native.Mathlib.Omega.{arith}
 use lib.ListN.{length, getD, drop, drop-of-length-le}
 use lib.Seq.{drop-cons}
 use borrow.Author.Needs.{needs}
-use Rattle.frame.specs.Digits.{digitValue, valueFrom, hexValue}
+use Rattle.frame.specs.Digits.{valueFrom, hexValue}
 use Rattle.frame.specs.Laws.Digits.{digit-value-le}
 use Rattle.frame.proofs.hex.value_of.Statement.{statement}
 use Rattle.frame.proofs.hex.value_of.Tie as tie

@@ -8,7 +8,7 @@ use lib.ListN.{length, getD, drop, length-set, drop-of-length-le}
 use lib.Seq.{drop-cons}
 use borrow.Author.Needs.{needs}
 use Rattle.frame.specs.Over.{over}
-use Rattle.frame.specs.Laws.Over.{overAt, over-start, over-entry, over-end}
+use Rattle.frame.specs.Laws.Over.{overAt, over-entry, over-end}
 use Rattle.frame.proofs.printing.put.Statement.{statement}
 use Rattle.frame.proofs.printing.put.Tie as tie
 

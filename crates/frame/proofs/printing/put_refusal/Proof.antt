@@ -1,5 +1,5 @@
 -- The word, two digits, and the end of the line.
-use mathlib.Core.Path.{_≡_, refl, sym, _∙_, ap, ap₂}
+use mathlib.Core.Path.{_≡_, refl, sym, _∙_, ap₂}
 use mathlib.Core.List.{List, [], _∷_, _++_}
 use Prim.Native.Nat.{ℕ, _/_, _%_, _≤_}
 use native.Mathlib.Omega.{arith}
@@ -9,7 +9,7 @@ use Rattle.frame.specs.Over.{over}
 use Rattle.frame.specs.Digits.{digitChar}
 use Rattle.frame.specs.Lines.{newline}
 use Rattle.frame.specs.OutputLines.{refusedWord, refusalText}
-use Rattle.frame.specs.Laws.Over.{overAt, written, written-length, over-entry, over-end}
+use Rattle.frame.specs.Laws.Over.{written, written-length, over-entry, over-end}
 use Rattle.frame.proofs.printing.put_refusal.Statement.{statement}
 use Rattle.frame.proofs.printing.put_refusal.Tie as tie
 

@@ -1,13 +1,12 @@
 -- Two digits for each grey, and the end of the line.
 use mathlib.Core.Path.{_≡_, refl, sym, _∙_, ap}
 use mathlib.Core.List.{List, [], _∷_, _++_}
-use Prim.Native.Nat.{ℕ, suc, _+_, _*_, _<_, _≤_, _-_}
+use Prim.Native.Nat.{ℕ, _+_, _*_, _<_, _≤_, _-_}
 use native.Mathlib.Numerals.{add-one}
 use native.Mathlib.Omega.{arith}
 use lib.ListN.{length, getD, drop, length-set, drop-of-length-le}
 use lib.Seq.{drop-cons}
 use borrow.Author.Needs.{needs}
-use borrow.Rule.Slice.PartMut.{putMid}
 use Rattle.frame.specs.Over.{over}
 use Rattle.frame.specs.Digits.{hex}
 use Rattle.frame.specs.Lines.{newline, lineText}

@@ -1,7 +1,5 @@
 -- The length, and then the digits.
-use mathlib.Core.Path.{_∙_, sym, ap}
-use lib.Dec.{eqb}
-use lib.ListN.{length}
+use mathlib.Core.Path.{_∙_}
 use borrow.Author.Needs.{needs}
 use borrow.Author.Tests.{eq-eqb, ne-eqb}
 use Rattle.tile.specs.Laws.Conjunction.{second-decides, first-decides}

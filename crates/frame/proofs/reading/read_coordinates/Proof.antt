@@ -1,9 +1,9 @@
 -- Four digits for each number.
-use mathlib.Core.Path.{_≡_, refl, sym, _∙_, ap, ap₂}
+use mathlib.Core.Path.{_≡_, refl, sym, _∙_, ap}
 use mathlib.Core.List.{List, [], _∷_}
-use Prim.Native.Nat.{ℕ, _+_, _*_, _/_, _^_, _<_, _≤_, _-_}
+use Prim.Native.Nat.{ℕ, _+_, _*_, _/_, _<_, _≤_, _-_}
 use native.Mathlib.Omega.{arith}
-use lib.IntN.{ℤ, pos}
+use lib.IntN.{pos}
 use lib.ListN.{length, take, drop, set, length-set, length-drop}
 use lib.Seq.{drop-drop, length-take-le}
 use mir.Syntax.{w64}

@@ -1,9 +1,8 @@
 -- The first two digits of the first line.
-use mathlib.Core.Path.{_≡_, refl, sym, _∙_, ap, ap₂}
+use mathlib.Core.Path.{sym, _∙_, ap}
 use native.Mathlib.Omega.{arith}
-use lib.ListN.{length, take, drop, length-take}
+use lib.ListN.{take}
 use lib.Seq.{length-take-le, take-take}
-use borrow.Author.Needs.{needs}
 use Rattle.frame.specs.Digits.{hexValue}
 use Rattle.frame.specs.Reading.{firstLine}
 use Rattle.frame.specs.Laws.Reading.{framed}
