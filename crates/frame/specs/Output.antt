@@ -1,5 +1,4 @@
--- What the tile program prints of a text, and what its table holds afterwards. Both are said by the text alone: what the table held before does
--- not matter to what is printed.
+-- What the tile program prints of a text, and what its table holds afterwards. What is printed is said by the text alone.
 --
 -- Definitions
 --   outlineQuestions f           building's questions and then the greys', of a frame, as far as a frame can fail them
@@ -9,8 +8,9 @@
 --   drawnText f                  what is printed where nothing is refused
 --   outputText t                 what is printed
 --   tableAfter t table           what the table holds afterwards
---   zeros n, tableLength,
---   answerLength, answerOf t     the program's table; a text in an array that holds the longest answer
+--   tableLength                  how many entries the program's table has
+--   zeros n                      n zero bytes
+--   answerLength, answerOf t     a text in an array that holds the longest answer
 use mathlib.Core.Path.{_≡_, refl}
 use mathlib.Core.List.{List, [], _∷_, _++_}
 use Prim.Native.Nat.{ℕ, _+_, _*_, _^_}

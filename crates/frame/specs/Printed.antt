@@ -1,4 +1,4 @@
--- Demand 3 of what is printed, from the text of a frame to the bytes that the program writes. `Answered` stands in the contract of `draw`, so it is
+-- Demand 3 of what is printed, from the text of a frame to the bytes that `draw` answers. `Answered` stands in the contract of `draw`, so it is
 -- proved of the code that runs.
 --
 -- Definitions
@@ -30,7 +30,7 @@ abbrev pub printedGrey : List ℕ → ℕ → ℕ → ℕ → ℕ
 printedGrey out level cx cy = hexValue (take greyWidth (drop (digitsAt level cx cy) out))
 
 pub record Printed (f : Frame) (out : List ℕ) : Type 0 where
-  -- the first line has the edge count, the counts' sum, and the outline's signed area
+  -- the first line has the edge count (the counts' sum) and the outline's signed area
   pub first-line : take summaryLength out ≡ summaryText (edgeCount (f .counts)) (signedArea (edgesOf (f .points) (f .counts)))
   -- "Each grey is at most one from the exact area's grey." The exact area is a fraction.
   pub greys : (cx cy : ℕ) → cx < 2 ^ f .level → cy < 2 ^ f .level

@@ -1,7 +1,7 @@
 -- Demand 1 of the program: when it prints each refusal, in both directions.
 --
 -- Main results
---   FrameRefusals, frame-refusals     when each number is that of a text; no other is
+--   FrameRefusals, frame-refusals     when each number is that of a text, and that no other comes
 --   prints-refusal                    a refusal is printed where its number is the text's, and only there
 --   refused-keeps                     and the table keeps what it held
 use mathlib.Core.Path.{_≡_}
@@ -50,7 +50,7 @@ frame-refusals t =
       no-other = firstNo-among (frameQuestions t);
     }
 
--- two numbers have two lines, and no picture begins like one
+-- different numbers have different lines, and no picture begins like one
 pub prints-refusal : (t : List ℕ) (number : ℕ) → 0 < number → number < 100 → (outputText t ≡ refusalText number) ↔ (frameRefusal t ≡ number)
 prints-refusal t number h k = refusal-decides t number h k
 

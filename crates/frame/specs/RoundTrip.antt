@@ -1,4 +1,5 @@
--- A text passes question 11 where it is the text of a frame, and no longer than the limit, and only there; and what is read of it is that frame.
+-- A text passes question 11 where it is the text of a frame that has one (`Writable`), and no longer than the limit, and only there; and what is read
+-- of it is that frame.
 --
 -- Main results
 --   read-written                 the text of a frame passes, and reading gives the frame back

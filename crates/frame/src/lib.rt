@@ -76,7 +76,7 @@ fn drawn(edges: u32, root: i64, greys: &[u8], across: usize) -> Answer
 
 // ---- drawing
 
-// How many places the picture of a level has: none where the level is out of range, which drawing then refuses.
+// How many places the picture of a level has: none where the level is out of range, and drawing refuses it.
 fn picture_size(level: u32) -> usize
     ensures { λ r. ⌜ r ≡ pictureSize level ⌝ }
 {
@@ -165,8 +165,8 @@ fn draw_frame(side: u32, level: u32, points: &[i64], counts: &[u32], table: &mut
     draw_outline(side, level, points, counts, table)
 }
 
-// The whole program: what it prints of a text, whatever the table held before. Where nothing is refused the outline's table is then in the first
-// side × side entries; a refusal leaves the table as it was.
+// The whole program but for reading and writing: what it prints of a text, whatever the table held before. Where nothing is refused the outline's table
+// is then in the first side × side entries; a refusal leaves the table as it was.
 pub fn draw(text: &[u8], table: &mut [i64; TABLE_LENGTH]) -> Answer
     ensures { λ r. ⌜ r ≡ answerOf (outputText (now (text .entry))) ⌝ }
     ensures { λ _. ⌜ now (table .exit) ≡ tableAfter (now (text .entry)) (now (table .entry)) ⌝ }
