@@ -1,13 +1,13 @@
 -- What the program's calls answer: numbers that two digits hold, and pictures and tables that its arrays hold.
 --
 -- Main results
---   picture-size-le, used-entries-le        they are within the program's arrays
+--   picture-size-le, used-entries-le       they are within the program's arrays
 --   zeros-length, take-zeros               zeros
 --   first-below                            a list of questions whose numbers are below k refuses with none from k on
 --   draw-number-small, build-number-small  a refusal's number has two digits
 --   Drawn, drawn                           what is known where the greys are not refused
 --   table-length, built-table-length       building leaves as many entries
---   answer-holds, answer-printed           its first bytes are the text
+--   answer-holds, answer-printed           an answer holds its text, at its start
 use mathlib.Core.Path.{_≡_, refl, sym, _∙_, ap}
 use mathlib.Core.Bool.{Bool, true, false, cond}
 use mathlib.Core.List.{List, [], _∷_}

@@ -1,9 +1,9 @@
--- What is printed of a frame, read again.
+-- The text of a frame, read again.
 --
 -- Main results
 --   allHex, line-text-is             a line's digits, and the end of the line
---   lines-line, closes-line          lines are where they were printed
---   written-is-frame                 what is printed of a frame passes question 11
+--   lines-line, closes-line          lines are where they were written
+--   written-is-frame                 the text of a frame passes question 11
 --   written-frame                    and what is read of it is the frame
 use mathlib.Core.Path.{_≡_, refl, sym, _∙_, ap, ap₂}
 use mathlib.Core.Bool.{Bool, true, false, cond, _&&_, true≢false}

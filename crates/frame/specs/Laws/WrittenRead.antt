@@ -1,9 +1,9 @@
--- What is read of a text, printed again.
+-- What is read of a text, written again.
 --
 -- Main results
 --   unlines, lines-joined            a text that ends with a line is its lines, each with its end
---   read-text                        what is printed of the frame that is read of a text is that text
---   read-writable                    and its numbers have as many digits as they get
+--   read-text                        the text of the frame that is read of a text is that text
+--   read-writable                    and each of its numbers fits in its digits
 use mathlib.Core.Path.{_≡_, refl, sym, _∙_, ap, ap₂, subst, subst⁻¹}
 use mathlib.Core.Bool.{Bool, true, false, cond, _&&_, true≢false}
 use mathlib.Core.List.{List, [], _∷_, _++_, map}
