@@ -49,6 +49,7 @@ pub struct Answer {
 
 // ---- answers
 
+// A refusal's number has two decimal digits.
 fn refused(number: u32) -> Answer
     requires { ⌜ number < 100 ⌝ }
     ensures { λ r. ⌜ r ≡ answerOf (refusalText number) ⌝ }
@@ -61,6 +62,7 @@ fn refused(number: u32) -> Answer
     }
 }
 
+// A picture with as many rows as each of them has greys.
 fn drawn(edges: u32, root: i64, greys: &[u8], across: usize) -> Answer
     requires { ⌜ (across ≤ greatestSide) × (across * across ≤ length (now greys)) ⌝ }
     ensures { λ r. ⌜ r ≡ answerOf (summaryText edges root ++ rowsText across across (now (greys .entry))) ⌝ }

@@ -34,7 +34,7 @@ fn put(out: &mut [u8], text: &[u8])
     }
 }
 
-// The line of a refusal.
+// The line of a refusal, whose number has two decimal digits.
 pub fn put_refusal(out: &mut [u8], number: u32)
     requires { ⌜ (number < 100) × (length (refusalText number) ≤ length (now out)) ⌝ }
     ensures { λ _. ⌜ now (out .exit) ≡ over (refusalText number) (now (out .entry)) ⌝ }

@@ -69,6 +69,7 @@ first-below k (q ∷ qs) z h = go (q .answer) (first-below k qs z (h .1))
     go true i = i
     go false i = h .0
 
+-- two decimal digits hold a number below 100
 pub draw-number-small : (side level : ℕ) (table : List ℤ) (size : ℕ) → drawRefusal side level table size < 100
 draw-number-small side level table size =
     first-below 100 (drawingQuestions side level table size) (lit< tt) (lit< tt, (lit< tt, (lit< tt, (lit< tt, (lit< tt, tt)))))

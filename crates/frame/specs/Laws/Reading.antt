@@ -104,7 +104,7 @@ body-counts-next t h =
     ap (map pointCount) (lines-cut t h)
     ∙ ap (λ n. (n / 8) ∷ bodyCounts (drop (suc (lineLength t)) t)) (length-take-le (lineLength t) t (line-length-le t))
 
--- ---- a frame
+-- ---- a frame: its first line has four digits, and their end is the fifth byte
 pub record Framed (t : List ℕ) : Type 0 where
   pub short : length t ≤ textLimit
   pub long : 5 ≤ length t
