@@ -3,6 +3,7 @@
 -- Main results
 --   allBelow test k              the test holds of every number below k
 --   below                        and so of each of them: `below test k refl n h`
+--   both                         two tests that hold together hold each
 use mathlib.Core.Path.{_≡_, sym, subst⁻¹}
 use mathlib.Core.Bool.{Bool, true, false, _&&_, true≢false}
 use Prim.Native.Nat.{ℕ, zero, suc, _<_}
@@ -13,7 +14,7 @@ unfoldable pub allBelow : (ℕ → Bool) → ℕ → Bool
 allBelow test zero = true
 allBelow test (suc k) = test k && allBelow test k
 
-both : (a b : Bool) → (a && b) ≡ true → (a ≡ true) × (b ≡ true)
+pub both : (a b : Bool) → (a && b) ≡ true → (a ≡ true) × (b ≡ true)
 both true true e = (e, e)
 both true false e = absurd (true≢false (sym e))
 both false b e = absurd (true≢false (sym e))

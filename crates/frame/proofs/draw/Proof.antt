@@ -51,6 +51,7 @@ module _ (c : tie.Else1) where
   long : 5 ≤ length text
   long = framed text is .long
 
+  -- room for 4,096 coordinates and 1,820 contours, as a text of the limit asks for
   readable : {body : List ℕ} → body ≡ drop 5 text → Readable body 4096 1820
   readable e =
       let n = ap length e ∙ length-drop 5 text in

@@ -29,7 +29,8 @@ rows-room across h = omega (arith, mul-le-mul {n₁ = across} {m₁ = 2 * across
 abbrev answer : List ℕ → ℕ → Answer
 answer bytes len = record { bytes = bytes; len = len }
 
--- over n zeros, n being a variable so that nothing computes them
+-- Over n zeros, n being a variable so that nothing computes them. In the code n is 8,277, the longest answer, of which the summary takes 21 bytes and
+-- leaves 8,256.
 module _ (n edges : ℕ) (root : ℤ) (old head : List ℕ) (long : 21 ≤ n) (z : length old ≡ n) (h : head ≡ over (summaryText edges root) old) where
   head-length : length head ≡ n
   head-length = written-length 0 (summaryText edges root) old h (omega (arith, summary-length edges root, z)) ∙ z

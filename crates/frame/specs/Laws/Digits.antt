@@ -17,9 +17,8 @@ use native.Mathlib.Omega.{arith}
 use lib.Dec.{eqb}
 use lib.ListN.{length, getD, length-append}
 use borrow.Author.Tests.{eqb-true, ltb-true, lt-ltb}
-use Rattle.integers.specs.Below.{allBelow, below}
+use Rattle.integers.specs.Below.{allBelow, below, both}
 use Rattle.tile.specs.Questions.{every}
-use Rattle.tile.specs.Laws.Tests.{and-means}
 use Rattle.frame.specs.Digits.{hexDigits, indexOf, digitChar, digitValue, isDigit, hex, valueFrom, hexValue}
 
 -- ---- one digit
@@ -103,7 +102,7 @@ pub hex-value-from : (width v : ℕ) (l : List ℕ) → every isDigit l ≡ true
 unfolding valueFrom
 hex-value-from width v [] e = ap (λ w. hex w v) (add-zero width) ∙ sym (append-nil (hex width v))
 hex-value-from width v (b ∷ l) e =
-    let d = and-means (isDigit b) (every isDigit l) {P = isDigit b ≡ true} {Q = every isDigit l ≡ true} (λ x. x, λ x. x) (λ x. x, λ x. x) .0 e in
+    let d = both (isDigit b) (every isDigit l) e in
     let n = 16 * v + digitValue b in
     ap (λ w. hex w (valueFrom n l)) {y = suc width + length l} (omega arith)
     ∙ hex-value-from (suc width) n l (d .1)
@@ -118,7 +117,7 @@ value-from-lt : (width v : ℕ) (l : List ℕ) → v < 16 ^ width → every isDi
 unfolding valueFrom
 value-from-lt width v [] h e = subst⁻¹ (λ w. v < 16 ^ w) (add-zero width) h
 value-from-lt width v (b ∷ l) h e =
-    let d = and-means (isDigit b) (every isDigit l) {P = isDigit b ≡ true} {Q = every isDigit l ≡ true} (λ x. x, λ x. x) (λ x. x, λ x. x) .0 e in
+    let d = both (isDigit b) (every isDigit l) e in
     let n = 16 * v + digitValue b in
     let k : n < 16 ^ suc width = omega (arith, pow-succ' 16 width, ltb-true (digitValue b) 16 (d .0)) in
     let s : suc width + length l ≡ width + suc (length l) = omega arith in

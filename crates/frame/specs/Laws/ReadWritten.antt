@@ -18,6 +18,7 @@ use lib.ListN.{length, take, drop, length-append, length-drop, take-append-drop}
 use lib.Seq.{length-take-le}
 use borrow.Author.Tests.{eqb-true, eq-eqb, le-leb, lt-ltb}
 use Rattle.integers.specs.Units.{textLimit}
+use Rattle.integers.specs.Below.{both}
 use Rattle.integers.specs.ListSum.{All, all-take, all-drop, tally}
 use Rattle.accuracy.specs.Outline.{edgeCount}
 use Rattle.tile.specs.Questions.{every}
@@ -27,7 +28,6 @@ use Rattle.frame.specs.Frames.{Frame, frame, headWidth, coordinateWidth,
 use Rattle.frame.specs.Reading.{isContour, areFrameLines, isFrame, coordinates, allCoordinates, pointCount, firstLine, otherLines, frameOf}
 use Rattle.frame.specs.Laws.Digits.{hex-length, hex-digits, value-hex, every-append}
 use Rattle.frame.specs.Laws.Lines.{closes-newline, closes-after}
-use Rattle.frame.specs.Laws.Reading.{both}
 
 -- ---- a line
 unfoldable pub allHex : ℕ → List ℕ → List ℕ

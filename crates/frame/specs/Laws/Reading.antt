@@ -3,14 +3,13 @@
 -- Main results
 --   coordinates-next, coordinates-none     the numbers of a line, one after the other
 --   coordinates-length                     how many there are
---   both                                   two tests that hold together
 --   ContourLine, contour-line              a contour's line
 --   Closed, closed                         a line of a text after a frame's first line: it is closed, and a contour's; and the text after it is so formed
 --   body-coordinates-next, body-counts-next   what is read of it and of the lines after it
 --   Framed, framed                         a frame's first line, and the text after it
 --   frame-is                               what is read of both
 use mathlib.Core.Path.{_≡_, refl, sym, _∙_, ap, ap₂, subst}
-use mathlib.Core.Bool.{Bool, true, false, _&&_, true≢false}
+use mathlib.Core.Bool.{true, false, _&&_, true≢false}
 use mathlib.Core.List.{List, [], _∷_, _++_, map}
 use Prim.Native.Nat.{ℕ, suc, _+_, _/_, _%_, _<_, _≤_}
 use native.Mathlib.Decide.{decLt}
@@ -21,8 +20,8 @@ use lib.ListN.{length, take, drop}
 use lib.Seq.{length-take-le}
 use borrow.Author.Tests.{eqb-true, leb-true, ltb-true}
 use Rattle.integers.specs.Units.{textLimit}
+use Rattle.integers.specs.Below.{both}
 use Rattle.tile.specs.Questions.{every}
-use Rattle.tile.specs.Laws.Tests.{and-means}
 use Rattle.frame.specs.Digits.{isDigit, hexValue}
 use Rattle.frame.specs.Lines.{lines}
 use Rattle.frame.specs.Frames.{frame}
@@ -54,10 +53,6 @@ coordinates-length (a ∷ []) = refl
 coordinates-length (a ∷ b ∷ []) = refl
 coordinates-length (a ∷ b ∷ c ∷ []) = refl
 coordinates-length (a ∷ b ∷ c ∷ d ∷ l) = omega (arith, coordinates-length l)
-
--- ---- two tests
-pub both : (a b : Bool) → (a && b) ≡ true → (a ≡ true) × (b ≡ true)
-both a b e = and-means a b {P = a ≡ true} {Q = b ≡ true} (λ x. x, λ x. x) (λ x. x, λ x. x) .0 e
 
 -- ---- a contour's line
 pub record ContourLine (l : List ℕ) : Type 0 where

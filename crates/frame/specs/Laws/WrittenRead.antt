@@ -16,6 +16,7 @@ use lib.Seq.{take-at, drop-at, length-take-le}
 use borrow.Author.Tests.{eqb-true}
 use Rattle.integers.specs.Units.{textLimit}
 use Rattle.integers.specs.Order.{nonneg}
+use Rattle.integers.specs.Below.{both}
 use Rattle.integers.specs.ListSum.{All, all-append, tally}
 use Rattle.accuracy.specs.Outline.{edgeCount}
 use Rattle.tile.specs.Questions.{every}
@@ -25,7 +26,7 @@ use Rattle.frame.specs.Frames.{Frame, frame, headWidth, coordinateWidth,
 use Rattle.frame.specs.Reading.{isContour, areFrameLines, isFrame, coordinates, allCoordinates, pointCount, firstLine, otherLines, frameOf}
 use Rattle.frame.specs.Laws.Digits.{hex-value, value-lt, every-append}
 use Rattle.frame.specs.Laws.Lines.{closes-newline, closes-after}
-use Rattle.frame.specs.Laws.Reading.{both, ContourLine, contour-line, coordinates-length, Framed, framed}
+use Rattle.frame.specs.Laws.Reading.{ContourLine, contour-line, coordinates-length, Framed, framed}
 use Rattle.frame.specs.Laws.ReadWritten.{allHex, line-text-is}
 
 -- ---- lines
