@@ -1,0 +1,57 @@
+/* Grey tiles from traced outlines: the four calls of the proved library libtile_c.a, which `rt staticlib tile_c` makes.
+ *
+ * A tile is a square of 1, 2, 4, 8, 16, 32 or 64 pixels a side; a step is 1/256 pixel; x grows to the right, y downwards. An outline is
+ * closed contours of whole points, letters clockwise as seen on the page, the holes in them anticlockwise. Building turns it into a table of
+ * Haar coefficients, from which pictures are drawn at full size (the deepest level, 6 for side 64) and at every halving, down to level 0.
+ *
+ * Each call answers 0 where the work is done, or the number of the first question that is answered no, and then no table and no picture has
+ * changed. The questions, in each call's order:
+ *
+ *   building: 1, 2, 4, 5, 3, 6      pictures and greys: 1, 2, 7, 8, 9      one cell: 1, 2, 7, 10, 9
+ *
+ *    1  Is the side 1, 2, 4, 8, 16, 32 or 64?
+ *    2  Has the table exactly side x side entries?
+ *    3  Are the points exactly twice as many numbers as the counts' sum?
+ *    4  Is every count from 3 to 1,024?
+ *    5  Is the counts' sum at most 1,024?
+ *    6  Is every coordinate from 0 to 256 x side?
+ *    7  Is the level at most the depth, the number of halvings from the side to 1?
+ *    8  Has the picture exactly 4^level places?
+ *    9  Is every entry of the table from -2^40 to 2^40?
+ *   10  Are both cell numbers below 2^level?
+ *
+ * Numbers may be any. What the caller owes, since no function can ask it: a pointer is not NULL, is aligned for what it points to, and as
+ * many elements as its length says are there; what is written overlaps nothing else that is passed; and nobody else writes any of it
+ * meanwhile. The calls keep no state and take no memory, so they may run on several threads at once. */
+#ifndef MATTULIYAN_H
+#define MATTULIYAN_H
+
+#include <stddef.h>
+#include <stdint.h>
+
+#ifdef __cplusplus
+extern "C" {
+#endif
+
+/* Builds the table of an outline: points has x and y of each point in turn, in steps, and counts how many points each contour has. *edges
+ * becomes the number of edges, or 0 where the call is refused. What the table held before makes no difference. */
+uint32_t mattuliyan_build(uint32_t side, const int64_t *points, size_t points_length, const uint32_t *counts, size_t counts_length,
+                          int64_t *table, size_t table_length, uint32_t *edges);
+
+/* Draws the figures of a level, row by row from the top left: 4^level times each cell's area, in units of which 131,072 are a pixel. */
+uint32_t mattuliyan_figures(uint32_t side, uint32_t level, const int64_t *table, size_t table_length, int64_t *picture,
+                            size_t picture_length);
+
+/* Draws the greys of a level, row by row from the top left: 0 is bare paper, 255 full ink. */
+uint32_t mattuliyan_greys(uint32_t side, uint32_t level, const int64_t *table, size_t table_length, uint8_t *picture,
+                          size_t picture_length);
+
+/* The figure of one cell, column cx and row cy of the level. *figure becomes it, or 0 where the call is refused. */
+uint32_t mattuliyan_cell(uint32_t side, uint32_t level, uint32_t cx, uint32_t cy, const int64_t *table, size_t table_length,
+                         int64_t *figure);
+
+#ifdef __cplusplus
+}
+#endif
+
+#endif

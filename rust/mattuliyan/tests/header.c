@@ -1,0 +1,33 @@
+/* 01's letter F through the C header, and a refusal of each call: prints what is answered and left, one line a call. */
+#include "mattuliyan.h"
+
+#include <inttypes.h>
+#include <stdio.h>
+
+int main(void) {
+    const int64_t points[] = {0, 0, 384, 1, 0, 1};
+    const uint32_t counts[] = {3};
+    int64_t table[] = {7, 7, 7, 7}, figures[] = {7, 7, 7, 7}, figure = 7;
+    uint8_t greys[] = {7, 7, 7, 7};
+    uint32_t edges = 7, number;
+
+    number = mattuliyan_build(2, points, 5, counts, 1, table, 4, &edges);
+    printf("%" PRIu32 " %" PRIu32 " %" PRId64 "\n", number, edges, table[0]);
+    number = mattuliyan_build(2, points, 6, counts, 1, table, 4, &edges);
+    printf("%" PRIu32 " %" PRIu32, number, edges);
+    for (int i = 0; i < 4; i++) printf(" %" PRId64, table[i]);
+    number = mattuliyan_figures(2, 1, table, 4, figures, 3);
+    printf("\n%" PRIu32 " %" PRId64 "\n", number, figures[0]);
+    number = mattuliyan_figures(2, 1, table, 4, figures, 4);
+    printf("%" PRIu32, number);
+    for (int i = 0; i < 4; i++) printf(" %" PRId64, figures[i]);
+    number = mattuliyan_greys(2, 2, table, 4, greys, 4);
+    printf("\n%" PRIu32 " %d\n", number, greys[0]);
+    number = mattuliyan_greys(2, 1, table, 4, greys, 4);
+    printf("%" PRIu32 " %d %d %d %d\n", number, greys[0], greys[1], greys[2], greys[3]);
+    number = mattuliyan_cell(2, 1, 1, 2, table, 4, &figure);
+    printf("%" PRIu32 " %" PRId64 "\n", number, figure);
+    number = mattuliyan_cell(2, 1, 1, 0, table, 4, &figure);
+    printf("%" PRIu32 " %" PRId64 "\n", number, figure);
+    return 0;
+}

@@ -1,0 +1,139 @@
+//! The C header: it compiles, what it declares is what the archive has, and C gets the right answers through it.
+use std::path::{Path, PathBuf};
+use std::process::Command;
+
+const TOP: &str = concat!(env!("CARGO_MANIFEST_DIR"), "/../..");
+
+fn read(path: &str) -> String {
+    std::fs::read_to_string(Path::new(TOP).join(path)).unwrap_or_else(|error| panic!("{path}: {error}"))
+}
+
+fn include() -> PathBuf {
+    Path::new(TOP).join("crates/tile_c/include")
+}
+
+fn run(command: &mut Command) -> String {
+    let output = command.output().unwrap_or_else(|error| panic!("{command:?}: {error}"));
+    assert!(output.status.success(), "{command:?}\n{}", String::from_utf8_lossy(&output.stderr));
+    String::from_utf8(output.stdout).unwrap()
+}
+
+/// The text without comments, line breaks and repeated blanks, so that two ways of laying it out compare equal.
+fn in_one_line(text: &str) -> String {
+    text.split_whitespace().collect::<Vec<_>>().join(" ").replace("( ", "(").replace(", )", ")").replace(" )", ")")
+}
+
+/// What stands between each `begin` and the `end` after it.
+fn between<'a>(text: &'a str, begin: &str, end: &str) -> Vec<&'a str> {
+    text.split(begin).skip(1).map(|rest| rest.split(end).next().unwrap()).collect()
+}
+
+/// A signature of the library, `name(side: u32, points: &[i64], ..) -> u32`, as name and parameters.
+fn parameters(signature: &str) -> (String, Vec<(String, String)>) {
+    let (name, rest) = signature.split_once('(').unwrap();
+    let list = rest.rsplit_once(") -> u32").expect("each call answers a u32").0;
+    let named = |parameter: &str| {
+        let (name, kind) = parameter.trim().split_once(": ").unwrap();
+        (name.to_string(), kind.to_string())
+    };
+    (name.to_string(), list.split(',').filter(|p| !p.trim().is_empty()).map(named).collect())
+}
+
+/// The parameters that C sees: a slice is a pointer and a length.
+fn flat(
+    parameters: &[(String, String)],
+    pointer: impl Fn(&str, bool) -> String,
+    length: &str,
+) -> Vec<(String, String)> {
+    let mut flat = Vec::new();
+    for (name, kind) in parameters {
+        let referred = kind.strip_prefix("&mut ").or(kind.strip_prefix('&'));
+        let slice = referred.and_then(|r| r.strip_prefix('[')).and_then(|r| r.strip_suffix(']'));
+        let kind = referred.map_or(kind.clone(), |r| pointer(slice.unwrap_or(r), kind.starts_with("&mut ")));
+        flat.push((name.clone(), kind));
+        if slice.is_some() {
+            flat.push((format!("{name}_length"), length.to_string()));
+        }
+    }
+    flat
+}
+
+fn c_type(rattle: &str) -> String {
+    match rattle.strip_prefix('u') {
+        Some(bits) => format!("uint{bits}_t"),
+        None => format!("int{}_t", rattle.strip_prefix('i').unwrap()),
+    }
+}
+
+#[test]
+fn declarations_agree() {
+    // Nothing else holds what C and Rust declare to the source of the library.
+    let source = in_one_line(&read("crates/tile_c/src/lib.rt"));
+    let header = in_one_line(&read("crates/tile_c/include/mattuliyan.h"));
+    let wrapper = in_one_line(&read("rust/mattuliyan/src/lib.rs"));
+    let exported = between(&source, "#[no_mangle] pub extern \"C\" fn ", " ensures ");
+    assert_eq!(exported.len(), 4);
+
+    let mut in_c = Vec::new();
+    let mut in_rust = Vec::new();
+    for signature in exported {
+        let (name, parameters) = parameters(signature);
+        let pointer = |kind: &str, mutable| format!("{}{} *", if mutable { "" } else { "const " }, c_type(kind));
+        let list = flat(&parameters, pointer, "size_t");
+        let list: Vec<String> = list
+            .iter()
+            .map(|(name, kind)| {
+                if kind.ends_with('*') {
+                    format!("{kind}{name}")
+                } else {
+                    format!("{} {name}", if kind == "size_t" { kind.clone() } else { c_type(kind) })
+                }
+            })
+            .collect();
+        in_c.push(format!("{name}({})", list.join(", ")));
+
+        let pointer = |kind: &str, mutable| format!("*{} {kind}", if mutable { "mut" } else { "const" });
+        let list = flat(&parameters, pointer, "usize");
+        let list: Vec<String> = list.iter().map(|(name, kind)| format!("{name}: {kind}")).collect();
+        in_rust.push(format!("{name}({}) -> u32", list.join(", ")));
+    }
+    assert_eq!(
+        between(&header, "uint32_t mattuliyan_", ";").iter().map(|d| format!("mattuliyan_{d}")).collect::<Vec<_>>(),
+        in_c
+    );
+    let block = wrapper.split("extern \"C\" {").nth(1).unwrap();
+    assert_eq!(between(block.split(" } }").next().unwrap(), "pub fn ", ";"), in_rust);
+
+    let symbols = run(Command::new("nm").args([
+        "--extern-only",
+        "--defined-only",
+        "--format=just-symbols",
+        env!("TILE_C_ARCHIVE"),
+    ]));
+    let mut symbols: Vec<&str> = symbols.lines().filter(|line| !line.is_empty() && !line.ends_with(':')).collect();
+    let mut names: Vec<&str> = in_c.iter().map(|d| d.split('(').next().unwrap()).collect();
+    symbols.sort();
+    names.sort();
+    assert_eq!(symbols, names);
+}
+
+#[test]
+fn answers_in_c() {
+    let program = Path::new(env!("CARGO_TARGET_TMPDIR")).join("header");
+    let source = Path::new(env!("CARGO_MANIFEST_DIR")).join("tests/header.c");
+    run(Command::new("cc").args(["-std=c99", "-Wall", "-Wextra", "-Wpedantic", "-Werror", "-I"]).args([
+        &include(),
+        &source,
+        Path::new(env!("TILE_C_ARCHIVE")),
+        Path::new("-o"),
+        &program,
+    ]));
+    let answers = "3 0 7\n0 3 384 299 384 299\n8 7\n0 1366 170 0 0\n7 7\n0 1 0 0 0\n10 0\n0 170\n";
+    assert_eq!(run(&mut Command::new(program)), answers);
+}
+
+#[test]
+fn compiles_as_cpp() {
+    let header = include().join("mattuliyan.h");
+    run(Command::new("c++").args(["-x", "c++", "-Wall", "-Wextra", "-Werror", "-fsyntax-only"]).arg(header));
+}
