@@ -1,0 +1,59 @@
+//! Demand 3, checked of what was drawn against exact areas: a figure within (4^level − 1) × edges / 2 of 4^level times its cell's exact area,
+//! and equal to it where every edge is level, upright or at 45 degrees; a grey within one of the exact area's; figures that add up.
+use crate::calls::Difference;
+use crate::outlines::Outline;
+
+/// The greatest miss of a figure that was met, as a ratio of its bound.
+#[derive(Clone, Debug)]
+pub struct Worst {
+    pub ratio: f64,
+    pub level: u32,
+    pub cx: usize,
+    pub cy: usize,
+    pub outline: Outline,
+}
+
+/// What was looked at in a level.
+#[derive(Default)]
+pub struct Looked {
+    pub cells: u64,
+    /// greys that are not the exact area's, but one from it
+    pub greys_one_apart: u64,
+    pub worst: Option<Worst>,
+}
+
+/// Are these the figures and greys of a level of the outline? `area` is its signed area.
+pub fn near(outline: &Outline, level: u32, area: i64, figures: &[i64], greys: &[u8]) -> Result<Looked, Difference> {
+    let across = 1 << level;
+    let octilinear = outline.is_octilinear();
+    let exact = reference::exact_areas(outline.side, &outline.points, &outline.counts, level);
+    let mut looked = Looked { cells: exact.len() as u64, ..Looked::default() };
+    if exact.len() != figures.len() || exact.len() != greys.len() {
+        return Err(Difference(format!("level {level} has not {} cells", exact.len())));
+    }
+    for (i, area) in exact.iter().enumerate() {
+        let (cx, cy) = (i % across, i / across);
+        let wrong = |what: &str| Err(Difference(format!("level {level}, cell ({cx}, {cy}): {what}")));
+        let miss = area.miss(figures[i], level);
+        if !miss.within(level, outline.edges()) {
+            return wrong("the figure misses the exact area by more than the bound");
+        }
+        if octilinear && !miss.is_zero() {
+            return wrong("the figure is not the exact area, though every edge is level, upright or at 45 degrees");
+        }
+        match area.grey(outline.side, level).abs_diff(greys[i]) {
+            0 => (),
+            1 => looked.greys_one_apart += 1,
+            _ => return wrong("the grey is more than one from the exact area's"),
+        }
+        let ratio = miss.ratio(level, outline.edges());
+        if looked.worst.as_ref().is_none_or(|worst| ratio > worst.ratio) {
+            looked.worst = Some(Worst { ratio, level, cx, cy, outline: outline.clone() });
+        }
+    }
+    let total: i128 = figures.iter().map(|&figure| figure as i128).sum();
+    if total != (area as i128) << (2 * level) {
+        return Err(Difference(format!("level {level}: the figures do not add up to 4^{level} times the signed area")));
+    }
+    Ok(looked)
+}

@@ -1,0 +1,225 @@
+//! The proved library beside the reference, on very many inputs.
+//!
+//! What no proof covers is compared here: that the compiler made of the proved code what it says, and that what was proved is what was
+//! wanted. The library is called through C; the reference was written from 01 alone and works by another method.
+//!
+//! A run is a list of cases, each made from the run's seed and its own number, so that any of them can be tried again alone. A case takes one
+//! accepted outline through building and every drawing call at every level ([`calls`]), holds what is drawn to demand 3 with exact areas
+//! ([`demand3`]), and makes some calls that may be refused ([`damage`]).
+pub mod calls;
+pub mod damage;
+pub mod demand3;
+pub mod outlines;
+pub mod random;
+
+use calls::Difference;
+use demand3::Worst;
+use outlines::{Outline, SIDES};
+use random::Random;
+use reference::Rules;
+
+/// One case in so many has a large outline, of up to 1,024 edges: those take the most time.
+const LARGE_ONE_IN: u64 = 100;
+
+/// Cells that are drawn one by one in a level with more than these; in a smaller level all are.
+const CELLS_ALONE: usize = 64;
+
+/// Calls that may be refused, of building and of drawing each, in a case.
+const DAMAGED_CALLS: u32 = 2;
+
+/// What a run has seen.
+#[derive(Default)]
+pub struct Seen {
+    pub outlines: u64,
+    /// outlines of level and upright edges and those at 45 degrees alone
+    pub octilinear: u64,
+    pub edges: u64,
+    /// cells whose figure and grey were held to exact areas
+    pub cells: u64,
+    pub greys_one_apart: u64,
+    pub calls: u64,
+    /// calls by the number that was answered; 0 is the work done
+    pub answered: [u64; 11],
+    pub worst: Option<Worst>,
+}
+
+impl Seen {
+    pub fn add(&mut self, other: Seen) {
+        self.outlines += other.outlines;
+        self.octilinear += other.octilinear;
+        self.edges += other.edges;
+        self.cells += other.cells;
+        self.greys_one_apart += other.greys_one_apart;
+        self.calls += other.calls;
+        self.answered.iter_mut().zip(other.answered).for_each(|(mine, more)| *mine += more);
+        self.consider(other.worst);
+    }
+
+    fn consider(&mut self, worst: Option<Worst>) {
+        let ratio = |worst: &Option<Worst>| worst.as_ref().map_or(-1.0, |worst| worst.ratio);
+        if ratio(&worst) > ratio(&self.worst) {
+            self.worst = worst;
+        }
+    }
+
+    fn answer<T>(&mut self, answer: Result<T, u8>) -> Option<T> {
+        self.calls += 1;
+        self.answered[answer.as_ref().err().map_or(0, |&number| number as usize)] += 1;
+        answer.ok()
+    }
+}
+
+/// A number with its thousands set apart.
+pub fn grouped(number: u64) -> String {
+    let digits = number.to_string();
+    let groups: Vec<&str> =
+        digits.as_bytes().rchunks(3).rev().map(|group| std::str::from_utf8(group).unwrap()).collect();
+    groups.join(",")
+}
+
+impl std::fmt::Display for Seen {
+    fn fmt(&self, to: &mut std::fmt::Formatter) -> std::fmt::Result {
+        write!(
+            to,
+            "{} outlines ({} octilinear) with {} edges, {} cells, {} greys one apart; {} calls, {} refused; worst miss ",
+            grouped(self.outlines),
+            grouped(self.octilinear),
+            grouped(self.edges),
+            grouped(self.cells),
+            grouped(self.greys_one_apart),
+            grouped(self.calls),
+            grouped(self.calls - self.answered[0]),
+        )?;
+        match &self.worst {
+            None => write!(to, "none"),
+            Some(w) => write!(
+                to,
+                "{:.4} of its bound (side {}, level {}, cell ({}, {}), {} edges)",
+                w.ratio,
+                w.outline.side,
+                w.level,
+                w.cx,
+                w.cy,
+                w.outline.edges()
+            ),
+        }
+    }
+}
+
+/// One case of a run.
+pub fn case(rules: &dyn Rules, seed: u64, number: u64, seen: &mut Seen) -> Result<(), Difference> {
+    let random = &mut Random::of_case(seed, number);
+    let side = SIDES[(number % SIDES.len() as u64) as usize];
+    let large = number / SIDES.len() as u64 % LARGE_ONE_IN == 0;
+    let outline = outlines::outline(random, side, large);
+    from_outline_to_pictures(rules, random, &outline, seen)?;
+    for _ in 0..DAMAGED_CALLS {
+        damaged_building(rules, random, &outline, seen)?;
+        damaged_drawing(rules, random, side, seen)?;
+    }
+    any_pictures(rules, random, side, seen)
+}
+
+/// Builds an accepted outline, draws all there is to draw, and holds it to demand 3.
+pub fn from_outline_to_pictures(
+    rules: &dyn Rules,
+    random: &mut Random,
+    outline: &Outline,
+    seen: &mut Seen,
+) -> Result<(), Difference> {
+    let Outline { side, ref points, ref counts } = *outline;
+    let held = damage::any_table(random, (side * side) as usize);
+    let Some((edges, table)) = seen.answer(calls::build(rules, side, points, counts, &held)?) else {
+        return Err(Difference("an accepted outline is refused".to_string()));
+    };
+    let area = reference::signed_area(points, counts);
+    seen.outlines += 1;
+    seen.octilinear += outline.is_octilinear() as u64;
+    seen.edges += edges as u64;
+    for level in 0..=outline.depth() {
+        let (figures, greys) = pictures(rules, random, side, level, &table, seen)?;
+        let looked = demand3::near(outline, level, area, &figures, &greys)?;
+        seen.cells += looked.cells;
+        seen.greys_one_apart += looked.greys_one_apart;
+        seen.consider(looked.worst);
+    }
+    Ok(())
+}
+
+/// Draws a level of a table as figures, as greys, and cell by cell.
+fn pictures(
+    rules: &dyn Rules,
+    random: &mut Random,
+    side: u32,
+    level: u32,
+    table: &[i64],
+    seen: &mut Seen,
+) -> Result<(Vec<i64>, Vec<u8>), Difference> {
+    let across = 1usize << level;
+    let places = across * across;
+    let held: Vec<i64> = damage::any_table(random, places);
+    let bytes: Vec<u8> = held.iter().map(|&entry| entry as u8).collect();
+    let figures = seen.answer(calls::figures(rules, side, level, table, &held)?);
+    let greys = seen.answer(calls::greys(rules, side, level, table, &bytes)?);
+    let (Some(figures), Some(greys)) = (figures, greys) else {
+        return Err(Difference(format!("a picture of level {level} is refused")));
+    };
+    for i in 0..places.min(CELLS_ALONE) {
+        let at = if places <= CELLS_ALONE { i } else { random.index(places) };
+        let (cx, cy) = ((at % across) as u32, (at / across) as u32);
+        if seen.answer(calls::cell(rules, side, level, cx, cy, table)?) != Some(figures[at]) {
+            return Err(Difference(format!("level {level}: cell ({cx}, {cy}) alone is not the picture's")));
+        }
+    }
+    Ok((figures, greys))
+}
+
+/// Every level of a table that no outline need have, its entries up to the limit.
+fn any_pictures(rules: &dyn Rules, random: &mut Random, side: u32, seen: &mut Seen) -> Result<(), Difference> {
+    let table = damage::table_in_range(random, (side * side) as usize);
+    for level in 0..=side.trailing_zeros() {
+        pictures(rules, random, side, level, &table, seen)?;
+    }
+    Ok(())
+}
+
+fn damaged_building(
+    rules: &dyn Rules,
+    random: &mut Random,
+    outline: &Outline,
+    seen: &mut Seen,
+) -> Result<(), Difference> {
+    let call = damage::building(random, outline);
+    seen.answer(calls::build(rules, call.side, &call.points, &call.counts, &call.table)?);
+    Ok(())
+}
+
+fn damaged_drawing(rules: &dyn Rules, random: &mut Random, side: u32, seen: &mut Seen) -> Result<(), Difference> {
+    let call = damage::drawing(random, side);
+    let held = damage::any_table(random, call.places);
+    let bytes: Vec<u8> = held.iter().map(|&entry| entry as u8).collect();
+    seen.answer(calls::figures(rules, call.side, call.level, &call.table, &held)?);
+    seen.answer(calls::greys(rules, call.side, call.level, &call.table, &bytes)?);
+    seen.answer(calls::cell(rules, call.side, call.level, call.cx, call.cy, &call.table)?);
+    Ok(())
+}
+
+/// The cases of these numbers, on all processors: what was seen, or the first case that fails on some processor, with what is wrong there.
+pub fn run(seed: u64, numbers: std::ops::Range<u64>) -> Result<Seen, (u64, Difference)> {
+    let threads = std::thread::available_parallelism().map_or(1, |n| n.get() as u64);
+    let part = |first: u64| {
+        let mut seen = Seen::default();
+        for number in (numbers.start + first..numbers.end).step_by(threads as usize) {
+            case(&reference::Spec, seed, number, &mut seen).map_err(|difference| (number, difference))?;
+        }
+        Ok(seen)
+    };
+    std::thread::scope(|scope| {
+        let running: Vec<_> = (0..threads).map(|first| scope.spawn(move || part(first))).collect();
+        let mut seen = Seen::default();
+        for thread in running {
+            seen.add(thread.join().expect("a thread of the run failed")?);
+        }
+        Ok(seen)
+    })
+}

@@ -1,0 +1,282 @@
+//! Outlines of every kind that 01 accepts: long edges and short, edges that touch grid lines, corners and the border, hairlines, outlines
+//! without area, repeated points, no contour at all.
+use crate::random::Random;
+
+/// 01's sides of a tile.
+pub const SIDES: [u32; 7] = [1, 2, 4, 8, 16, 32, 64];
+/// 01's step is 1/256 pixel.
+pub const STEPS: i64 = 256;
+/// Question 5: the most edges of an outline.
+pub const MOST_EDGES: u32 = 1024;
+/// Question 4: the fewest points of a contour.
+pub const FEWEST_POINTS: u32 = 3;
+
+#[derive(Clone, Debug, PartialEq)]
+pub struct Outline {
+    pub side: u32,
+    pub points: Vec<i64>,
+    pub counts: Vec<u32>,
+}
+
+type Point = (i64, i64);
+
+impl Outline {
+    pub fn edges(&self) -> u32 {
+        self.counts.iter().sum()
+    }
+
+    pub fn depth(&self) -> u32 {
+        self.side.trailing_zeros()
+    }
+
+    /// Is every edge level, upright or at 45 degrees? (A point that is repeated is all three.)
+    pub fn is_octilinear(&self) -> bool {
+        let mut from = 0;
+        self.counts.iter().all(|&count| {
+            let to = from + 2 * count as usize;
+            let contour: Vec<&[i64]> = self.points[from..to].chunks(2).collect();
+            from = to;
+            (0..contour.len()).all(|i| {
+                let next = contour[(i + 1) % contour.len()];
+                let (dx, dy) = ((next[0] - contour[i][0]).abs(), (next[1] - contour[i][1]).abs());
+                dx == 0 || dy == 0 || dx == dy
+            })
+        })
+    }
+
+    /// The outline as the text that the tile program reads, so that what is found here can be drawn.
+    pub fn frame(&self, level: u32) -> String {
+        let mut text = format!("{:02x}{:02x}\n", self.side, level);
+        let mut coordinates = self.points.iter();
+        for &count in &self.counts {
+            for coordinate in coordinates.by_ref().take(2 * count as usize) {
+                text += &format!("{coordinate:04x}");
+            }
+            text += "\n";
+        }
+        text
+    }
+}
+
+/// A random outline, of a few edges mostly, and of up to 1,024 where it is to be large.
+pub fn outline(random: &mut Random, side: u32, large: bool) -> Outline {
+    let most = match (large, random.index(8)) {
+        (true, 0..4) => MOST_EDGES,
+        (true, _) => random.within(65, MOST_EDGES as i64) as u32,
+        (false, 0) => random.within(3, 64) as u32,
+        (false, _) => random.within(3, 12) as u32,
+    };
+    let counts = counts(random, most);
+    let kind = random.index(KINDS.len() + 1);
+    let mut points = Vec::new();
+    for &count in &counts {
+        // one kind for the whole outline, or for each contour its own
+        let make = *KINDS.get(kind).unwrap_or(&KINDS[random.index(KINDS.len())]);
+        let limit = STEPS * side as i64;
+        let contour = make(random, limit, count as usize);
+        assert_eq!(contour.len(), count as usize);
+        points.extend(contour.iter().flat_map(|&(x, y)| [x.clamp(0, limit), y.clamp(0, limit)]));
+    }
+    Outline { side, points, counts }
+}
+
+/// Counts that add up to `most` edges at the most, or once in a while to none.
+fn counts(random: &mut Random, most: u32) -> Vec<u32> {
+    if random.once_in(200) {
+        return Vec::new();
+    }
+    let contours = match random.index(4) {
+        0 => most / FEWEST_POINTS, // as many as there can be
+        1 => random.within(1, (most / FEWEST_POINTS).max(1) as i64) as u32,
+        _ => 1,
+    };
+    let mut counts = vec![FEWEST_POINTS; contours as usize];
+    let mut left = most.saturating_sub(FEWEST_POINTS * contours);
+    while left > 0 {
+        let more = random.within(1, left as i64) as u32;
+        counts[random.index(contours as usize)] += more;
+        left -= more;
+    }
+    counts
+}
+
+/// A maker of contours: so many points on a tile of so many steps (a point off the tile is moved onto it).
+type Kind = fn(&mut Random, i64, usize) -> Vec<Point>;
+
+const KINDS: [Kind; 10] = [
+    anywhere,
+    small_steps,
+    on_grid_lines,
+    octilinear,
+    on_the_border,
+    repeated,
+    hairline,
+    about_a_corner,
+    ring,
+    back_and_forth,
+];
+
+/// Long edges: points all over the tile.
+fn anywhere(random: &mut Random, limit: i64, count: usize) -> Vec<Point> {
+    (0..count).map(|_| (random.within(0, limit), random.within(0, limit))).collect()
+}
+
+/// A letter's small edges: each point near the one before.
+fn small_steps(random: &mut Random, limit: i64, count: usize) -> Vec<Point> {
+    let reach = random.within(1, 400);
+    let (mut x, mut y) = (random.within(0, limit), random.within(0, limit));
+    let step = |random: &mut Random, at: i64| (at + random.within(-reach, reach)).clamp(0, limit);
+    (0..count)
+        .map(|_| {
+            (x, y) = (step(random, x), step(random, y));
+            (x, y)
+        })
+        .collect()
+}
+
+/// Points on the sides and middles of cells of some level, or one step beside them.
+fn on_grid_lines(random: &mut Random, limit: i64, count: usize) -> Vec<Point> {
+    let spacing = (limit >> random.index(15)).max(1);
+    let on_line = |random: &mut Random| {
+        let beside = if random.once_in(4) { random.within(-1, 1) } else { 0 };
+        spacing * random.within(0, limit / spacing) + beside
+    };
+    (0..count).map(|_| (on_line(random), on_line(random))).collect()
+}
+
+/// Level and upright edges and those at 45 degrees, where nothing is rounded.
+fn octilinear(random: &mut Random, limit: i64, count: usize) -> Vec<Point> {
+    let start = (random.within(0, limit), random.within(0, limit));
+    let mut points = vec![start];
+    while points.len() < count {
+        let (x, y) = points[points.len() - 1];
+        let (sx, sy) = (random.within(-1, 1), random.within(-1, 1));
+        // as far as the border at the most
+        let room = |at: i64, sign: i64| {
+            if sign > 0 {
+                limit - at
+            } else if sign < 0 {
+                at
+            } else {
+                limit
+            }
+        };
+        let far = random.within(0, room(x, sx).min(room(y, sy)));
+        points.push((x + sx * far, y + sy * far));
+    }
+    // the last edge closes the contour: its point is put level with the one before it, and under the first
+    let before = points[count - 2];
+    points[count - 1] = (start.0, before.1);
+    points
+}
+
+/// Points on the border and in the corners of the tile.
+fn on_the_border(random: &mut Random, limit: i64, count: usize) -> Vec<Point> {
+    (0..count)
+        .map(|_| {
+            let end = random.pick(&[0, limit]);
+            let along = if random.once_in(3) { random.pick(&[0, limit]) } else { random.within(0, limit) };
+            if random.once_in(2) {
+                (end, along)
+            } else {
+                (along, end)
+            }
+        })
+        .collect()
+}
+
+/// A few points over and over.
+fn repeated(random: &mut Random, limit: i64, count: usize) -> Vec<Point> {
+    let few: Vec<Point> =
+        (0..random.within(1, 4)).map(|_| (random.within(0, limit), random.within(0, limit))).collect();
+    (0..count).map(|_| random.pick(&few)).collect()
+}
+
+/// There along one line and back along another, a hair's breadth beside it.
+fn hairline(random: &mut Random, limit: i64, count: usize) -> Vec<Point> {
+    let breadth = random.within(1, 48);
+    let (x0, y0, x1, y1) =
+        (random.within(0, limit), random.within(0, limit), random.within(0, limit), random.within(0, limit));
+    let there = count.div_ceil(2);
+    (0..count)
+        .map(|i| {
+            let (at, of, off) =
+                if i < there { (i, there.max(2) - 1, 0) } else { (count - 1 - i, (count - there).max(2) - 1, breadth) };
+            let along = |a: i64, b: i64| a + (b - a) * at as i64 / of as i64;
+            (along(x0, x1) + random.within(0, 1), along(y0, y1) + off)
+        })
+        .collect()
+}
+
+/// Points within a few steps of a corner that many cells share, where edges are tiny and halves to be rounded frequent.
+fn about_a_corner(random: &mut Random, limit: i64, count: usize) -> Vec<Point> {
+    let spacing = (limit >> random.index(9)).max(1);
+    let reach = random.within(1, 8);
+    let (x, y) = (spacing * random.within(0, limit / spacing), spacing * random.within(0, limit / spacing));
+    (0..count).map(|_| (x + random.within(-reach, reach), y + random.within(-reach, reach))).collect()
+}
+
+/// A polygon about a middle, clockwise as a letter or anticlockwise as a hole.
+fn ring(random: &mut Random, limit: i64, count: usize) -> Vec<Point> {
+    let (x, y, radius) = (random.within(0, limit), random.within(0, limit), random.within(1, limit));
+    let turn = random.pick(&[1.0, -1.0]) * std::f64::consts::TAU / count as f64;
+    (0..count)
+        .map(|i| {
+            let (sin, cos) = (turn * i as f64).sin_cos();
+            (x + (radius as f64 * cos) as i64, y + (radius as f64 * sin) as i64)
+        })
+        .collect()
+}
+
+/// Along one line again and again: edges, but no area.
+fn back_and_forth(random: &mut Random, limit: i64, count: usize) -> Vec<Point> {
+    let (dx, dy) = (random.within(-40, 40), random.within(-40, 40));
+    let (x, y) = (random.within(0, limit), random.within(0, limit));
+    (0..count)
+        .map(|_| {
+            let far = random.within(0, 100);
+            (x + dx * far, y + dy * far)
+        })
+        .collect()
+}
+
+#[cfg(test)]
+mod tests {
+    use super::*;
+
+    #[test]
+    fn outlines_are_accepted_ones() {
+        let mut random = Random::new(1);
+        let (mut most, mut empty, mut exact) = (0, 0, 0);
+        for number in 0..7000 {
+            let made = outline(&mut random, SIDES[number % 7], number % 50 == 0);
+            assert!(made.edges() <= MOST_EDGES && made.counts.iter().all(|&count| count >= FEWEST_POINTS));
+            assert_eq!(made.points.len(), 2 * made.edges() as usize);
+            assert!(made.points.iter().all(|&c| 0 <= c && c <= STEPS * made.side as i64));
+            most += (made.edges() == MOST_EDGES) as u32;
+            empty += made.counts.is_empty() as u32;
+            exact += (made.is_octilinear() && !made.counts.is_empty()) as u32;
+        }
+        assert!(
+            most > 20 && empty > 10 && exact > 100,
+            "{most} with the most edges, {empty} empty, {exact} octilinear"
+        );
+    }
+
+    #[test]
+    fn octilinear_contours_are() {
+        let mut random = Random::new(2);
+        for count in 3..200 {
+            let points = octilinear(&mut random, 512, count).iter().flat_map(|&(x, y)| [x, y]).collect();
+            assert!(Outline { side: 2, points, counts: vec![count as u32] }.is_octilinear());
+        }
+        let slanted = Outline { side: 2, points: vec![0, 0, 2, 1, 0, 1], counts: vec![3] };
+        assert!(!slanted.is_octilinear());
+    }
+
+    #[test]
+    fn frame_of_the_example() {
+        let square = Outline { side: 2, points: vec![0, 0, 256, 0, 256, 256, 0, 256], counts: vec![4] };
+        assert_eq!(square.frame(1), "0201\n00000000010000000100010000000100\n");
+    }
+}

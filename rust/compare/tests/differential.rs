@@ -1,0 +1,17 @@
+//! Tens of thousands of cases, always the same ones.
+
+/// Any seed will do; it is fixed so that a failure can be seen again.
+const SEED: u64 = 1;
+/// As many as take well under two minutes on two processors.
+const CASES: u64 = 35_000;
+
+#[test]
+fn library_and_reference_agree() {
+    let seen = compare::run(SEED, 0..CASES)
+        .unwrap_or_else(|(number, difference)| panic!("seed {SEED}, case {number}: {difference}"));
+    println!("differential: {seen}");
+    // The run did what it says: every number was answered many times, and there were outlines of each kind.
+    assert_eq!(seen.outlines, CASES);
+    assert!(seen.answered.iter().all(|&times| times > 500), "numbers answered: {:?}", seen.answered);
+    assert!(seen.octilinear > CASES / 20);
+}

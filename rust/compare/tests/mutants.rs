@@ -1,0 +1,79 @@
+//! The tests are tested: each wrong variant of the reference differs from the library in some case of the same run, and what is drawn wrongly
+//! does not pass for near.
+use compare::calls::Difference;
+use compare::outlines::Outline;
+use compare::{case, demand3, Seen};
+use reference::{Rules, Spec};
+
+/// The seed of `tests/differential.rs`, whose first cases these are.
+const SEED: u64 = 1;
+const CASES: u64 = 2_000;
+
+fn first_difference(rules: &dyn Rules) -> Option<(u64, Difference)> {
+    let mut seen = Seen::default();
+    (0..CASES).find_map(|number| case(rules, SEED, number, &mut seen).err().map(|difference| (number, difference)))
+}
+
+#[test]
+fn wrong_references_are_caught() {
+    let wrong = reference::wrong::all();
+    assert!(wrong.len() >= 5);
+    for (name, rules) in wrong {
+        let (number, difference) =
+            first_difference(&*rules).unwrap_or_else(|| panic!("{name}: not caught in {CASES} cases"));
+        println!("mutants: {name}: caught in case {number}: {difference}");
+    }
+    assert!(first_difference(&Spec).is_none(), "the reference itself differs");
+}
+
+/// 01's letter F on a larger tile, its figures and greys of level 1 as they are drawn.
+fn drawn() -> (Outline, i64, [i64; 4], [u8; 4]) {
+    let outline = Outline { side: 2, points: vec![0, 0, 384, 1, 0, 1], counts: vec![3] };
+    let (mut table, mut figures, mut greys) = ([0; 4], [0; 4], [0; 4]);
+    mattuliyan::build(2, &outline.points, &outline.counts, &mut table).unwrap();
+    mattuliyan::figures(2, 1, &table, &mut figures).unwrap();
+    mattuliyan::greys(2, 1, &table, &mut greys).unwrap();
+    (outline, table[0], figures, greys)
+}
+
+#[test]
+fn figures_past_the_bound_are_caught() {
+    let (outline, area, figures, greys) = drawn();
+    assert!(demand3::near(&outline, 1, area, &figures, &greys).is_ok());
+    // The exact area of the first cell is 1365 1/3 over 4, and its figure 1366; three edges may miss by 4 1/2. What is taken from one cell is
+    // given to another that has room for it, so that the total is kept.
+    for (moved, near) in [(3, true), (4, false), (-5, true), (-6, false)] {
+        let mut figures = figures;
+        figures[0] += moved;
+        figures[3] -= moved.min(4).max(-4);
+        figures[2] -= moved - moved.min(4).max(-4);
+        assert_eq!(demand3::near(&outline, 1, area, &figures, &greys).is_ok(), near, "moved by {moved}");
+    }
+}
+
+#[test]
+fn greys_two_apart_are_caught() {
+    let (outline, area, figures, mut greys) = drawn();
+    greys[1] += 1;
+    assert!(demand3::near(&outline, 1, area, &figures, &greys).is_ok());
+    greys[1] += 1;
+    assert!(demand3::near(&outline, 1, area, &figures, &greys).is_err());
+}
+
+#[test]
+fn totals_that_are_off_are_caught() {
+    let (outline, area, mut figures, greys) = drawn();
+    figures[3] += 1;
+    assert!(demand3::near(&outline, 1, area, &figures, &greys).is_err());
+}
+
+#[test]
+fn octilinear_outlines_must_be_exact() {
+    let outline = Outline { side: 2, points: vec![0, 0, 256, 0, 256, 256, 0, 256], counts: vec![4] };
+    let (mut figures, greys) = ([524_288, 0, 0, 0], [255, 0, 0, 0]);
+    assert!(demand3::near(&outline, 1, 131_072, &figures, &greys).is_ok());
+    // the same total, within the bound, but not exact
+    figures[0] -= 1;
+    figures[1] += 1;
+    assert!(demand3::near(&outline, 1, 131_072, &figures, &greys).is_err());
+}

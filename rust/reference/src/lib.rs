@@ -1,0 +1,92 @@
+//! An independent reference for grey tiles from traced outlines.
+//!
+//! It states the specification ("01") a second time, in plain Rust and by
+//! another method than the product, so that the two can be compared on any
+//! input. It is written to be read: nothing here is tuned beyond what running
+//! it on many thousands of outlines needs.
+//!
+//! # How areas are worked out
+//!
+//! Everything 01 wants of an edge is an integral over y of some function f of
+//! x, taken along the part of the edge that lies in the rows of a cell:
+//!
+//! * for the exact area, f is "how far x lies past the cell's left side, held
+//!   between 0 and the cell's width";
+//! * for the detail h, f is the distance from x to the cell's nearer upright
+//!   side, and 0 outside the cell;
+//! * d is h of the upper half's rows less h of the lower half's rows;
+//! * v is minus h with x and y exchanged.
+//!
+//! Along an edge that is not upright, dy = (dy/dx) dx, so the integral between
+//! two heights is
+//!
+//! ```text
+//! (dy/dx) × (F(x at the end) − F(x at the start)),   F an antiderivative of f.
+//! ```
+//!
+//! Along an upright edge it is f(x) times the difference of the two heights.
+//! No stepping and no limit process is involved; the result is exact.
+//!
+//! Both functions f are made of straight pieces. Such a function is a sum of
+//! ramps: with the slope changing by t at each of some places a,
+//!
+//! ```text
+//! f(x) = Σ t × max(x − a, 0)      and      2 F(x) = Σ t × max(x − a, 0)².
+//! ```
+//!
+//! The area's f has slope changes +1 at the left side and −1 at the right; the
+//! detail's f has +1, −2, +1 at the left side, the middle and the right side.
+//! A [`Profile`] is that list of slope changes.
+//!
+//! The x of an edge at a whole height is a whole number over |dy|. So 2 F is a
+//! whole number over dy², and times dy/dx it is a whole number over
+//! |dx| × |dy|: every edge value is a [`Fraction`] with a known denominator.
+//!
+//! # Exactness
+//!
+//! The exact area of a cell is a sum of such fractions, up to 1,024 of them
+//! with different denominators. [`Exact`] holds the sum without bringing it to
+//! a common denominator and still compares it exactly with whole numbers: a
+//! rigorous enclosure decides nearly always, big integers decide the rest.
+//!
+//! # The rules, and wrong rules
+//!
+//! What a careful person may get wrong stands in the trait [`Rules`], whose
+//! default methods are 01's rules; [`Spec`] takes them all as they are. The
+//! module [`wrong`] has variants with one rule spoilt each: whoever compares a
+//! product with this reference can check that the comparison would notice.
+//!
+//! # Reading order
+//!
+//! `rules`, `questions`, `edge`, `table`, `picture`, `area`, `frame`; then
+//! `exact` and `big`, the arithmetic below; then `wrong`.
+
+#![forbid(unsafe_code)]
+#![warn(missing_docs)]
+
+mod area;
+mod big;
+mod edge;
+mod exact;
+mod frame;
+mod picture;
+mod questions;
+mod rules;
+mod table;
+pub mod wrong;
+
+pub use area::{exact_areas, exact_details, signed_area};
+pub use edge::{Bend, Cell, Edge, Fraction, Profile};
+pub use exact::{Exact, Miss};
+pub use frame::{frame, tile_program, Frame};
+pub use picture::{cell, figures, greys};
+pub use questions::{Limits, Question};
+pub use rules::{Rules, Spec};
+pub use table::build;
+
+/// A full pixel's area: the unit is half a square step and a pixel is 256
+/// steps each way, so 2 × 256 × 256.
+pub const PIXEL: i64 = 131_072;
+
+/// "A step is 1/256 pixel."
+pub const STEPS: i64 = 256;

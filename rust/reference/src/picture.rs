@@ -1,0 +1,60 @@
+//! Drawing a table: figures, greys and one cell.
+
+use crate::questions::Given;
+use crate::rules::Rules;
+use crate::table::place;
+
+/// The figures of a level, row by row from the top left, or the refusal's
+/// number. `places` is how many places the caller's picture has.
+pub fn figures(rules: &dyn Rules, side: u32, level: u32, table: &[i64], places: usize) -> Result<Vec<i64>, u8> {
+    let given = Given { side, table, level, places, ..Given::default() };
+    given.ask(&rules.picture(), rules.limits())?;
+
+    // The whole picture of each level is made from that of the level above.
+    let mut picture = vec![table[0]];
+    for j in 0..level {
+        let wide = 1 << j;
+        let mut finer = Vec::with_capacity(4 * picture.len());
+        for y in 0..2 * wide {
+            for x in 0..2 * wide {
+                let parent = picture[((y / 2) * wide + x / 2) as usize];
+                let details = signed_details(table, j, x, y);
+                finer.push(rules.quarter(parent, j, details));
+            }
+        }
+        picture = finer;
+    }
+    Ok(picture)
+}
+
+/// The greys of a level, row by row from the top left, or the refusal's
+/// number.
+pub fn greys(rules: &dyn Rules, side: u32, level: u32, table: &[i64], places: usize) -> Result<Vec<u8>, u8> {
+    let figures = figures(rules, side, level, table, places)?;
+    Ok(figures.iter().map(|&f| rules.grey(f, side)).collect())
+}
+
+/// The figure of one cell, worked on its own from the root down through the
+/// cells that hold it, or the refusal's number.
+pub fn cell(rules: &dyn Rules, side: u32, level: u32, cx: u32, cy: u32, table: &[i64]) -> Result<i64, u8> {
+    let given = Given { side, table, level, cell: (cx, cy), ..Given::default() };
+    given.ask(&rules.one_cell(), rules.limits())?;
+
+    let mut figure = table[0];
+    for j in 0..level {
+        // The cell of level j + 1 that holds the wanted one.
+        let up = level - (j + 1);
+        let details = signed_details(table, j, cx >> up, cy >> up);
+        figure = rules.quarter(figure, j, details);
+    }
+    Ok(figure)
+}
+
+/// ± h ± v ± d of the parent of cell (x, y) of level j + 1: "h plus on the
+/// left, v plus above, d plus in the upper left and lower right."
+fn signed_details(table: &[i64], j: u32, x: u32, y: u32) -> i64 {
+    let first = place(j, x / 2, y / 2);
+    let across = 1 - 2 * i64::from(x % 2);
+    let down = 1 - 2 * i64::from(y % 2);
+    across * table[first] + down * table[first + 1] + across * down * table[first + 2]
+}

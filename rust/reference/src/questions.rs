@@ -1,0 +1,115 @@
+//! The questions that decide whether a call is answered or refused.
+//!
+//! Each question is answered on its own, for any input at all, so that the
+//! order in which they are asked is a mere list.
+
+use crate::STEPS;
+
+/// 01's ten questions about a call; each one's number is the refusal's.
+#[derive(Clone, Copy, Debug, PartialEq, Eq)]
+pub enum Question {
+    /// Is the side 1, 2, 4, 8, 16, 32 or 64?
+    Side = 1,
+    /// Does the table have exactly side × side entries?
+    TableLength = 2,
+    /// Are the points exactly twice as many numbers as the counts' sum?
+    PointsLength = 3,
+    /// Is every count from 3 to 1,024?
+    EachCount = 4,
+    /// Is the counts' sum at most 1,024?
+    CountSum = 5,
+    /// Is every coordinate from 0 to 256 × side?
+    Coordinates = 6,
+    /// Is the level at most the depth?
+    Level = 7,
+    /// Has the picture exactly 4^level places?
+    Places = 8,
+    /// Is every entry of the table from −2^40 to 2^40?
+    Entries = 9,
+    /// Are both cell numbers below 2^level?
+    CellNumbers = 10,
+}
+
+/// The limits that the questions compare with.
+#[derive(Clone, Copy, Debug, PartialEq, Eq)]
+pub struct Limits {
+    /// The fewest points of a contour.
+    pub least_count: u32,
+    /// The most points of a contour.
+    pub most_count: u32,
+    /// The most edges of an outline, the counts' sum.
+    pub most_edges: u32,
+    /// The largest table entry that is drawn, and minus it the smallest.
+    pub largest_entry: i64,
+}
+
+impl Limits {
+    /// 01's limits.
+    pub const SPEC: Limits = Limits { least_count: 3, most_count: 1024, most_edges: 1024, largest_entry: 1 << 40 };
+}
+
+/// What a call was given. What a call does not take stays empty, and no
+/// question of that call is about it.
+#[derive(Clone, Copy, Default)]
+pub(crate) struct Given<'a> {
+    pub side: u32,
+    pub table: &'a [i64],
+    pub points: &'a [i64],
+    pub counts: &'a [u32],
+    pub level: u32,
+    pub places: usize,
+    pub cell: (u32, u32),
+}
+
+impl Given<'_> {
+    /// "The first 'no' decides": its number, or no refusal.
+    pub fn ask(&self, order: &[Question], limits: Limits) -> Result<(), u8> {
+        match order.iter().find(|&&question| !self.yes(question, limits)) {
+            Some(&no) => Err(no as u8),
+            None => Ok(()),
+        }
+    }
+
+    fn yes(&self, question: Question, limits: Limits) -> bool {
+        match question {
+            Question::Side => self.side <= 64 && self.side.count_ones() == 1,
+            Question::TableLength => self.table.len() as u128 == u128::from(self.side) * u128::from(self.side),
+            Question::PointsLength => self.points.len() as u128 == 2 * sum(self.counts),
+            Question::EachCount => {
+                self.counts.iter().all(|count| (limits.least_count..=limits.most_count).contains(count))
+            }
+            Question::CountSum => sum(self.counts) <= u128::from(limits.most_edges),
+            Question::Coordinates => {
+                let far = STEPS * i64::from(self.side);
+                self.points.iter().all(|x| (0..=far).contains(x))
+            }
+            Question::Level => self.level <= depth(self.side),
+            Question::Places => power(4, self.level) == Some(self.places as u128),
+            Question::Entries => {
+                let drawn = -limits.largest_entry..=limits.largest_entry;
+                self.table.iter().all(|entry| drawn.contains(entry))
+            }
+            Question::CellNumbers => {
+                // A power past 2^127 is above any cell number.
+                let cells = power(2, self.level).unwrap_or(u128::MAX);
+                u128::from(self.cell.0) < cells && u128::from(self.cell.1) < cells
+            }
+        }
+    }
+}
+
+/// "The depth is the number of noughts below that bit."
+pub(crate) fn depth(side: u32) -> u32 {
+    side.trailing_zeros()
+}
+
+/// The counts' sum; 128 bits hold it for any list that fits in memory.
+fn sum(counts: &[u32]) -> u128 {
+    counts.iter().map(|&count| u128::from(count)).sum()
+}
+
+/// A power, or none where it does not fit: no number that a caller can name
+/// is then equal to it or above it.
+fn power(base: u128, exponent: u32) -> Option<u128> {
+    base.checked_pow(exponent)
+}

@@ -1,0 +1,56 @@
+//! Building the table from an outline.
+
+use crate::edge::{edges, Cell};
+use crate::questions::{depth, Given};
+use crate::rules::Rules;
+
+/// Builds an outline's table: the edge count and the table that building must
+/// leave, or the refusal's number. Of `table`, what the caller's table holds
+/// before, only the length matters.
+pub fn build(
+    rules: &dyn Rules,
+    side: u32,
+    points: &[i64],
+    counts: &[u32],
+    table: &[i64],
+) -> Result<(u32, Vec<i64>), u8> {
+    let given = Given { side, table, points, counts, ..Given::default() };
+    given.ask(&rules.building(), rules.limits())?;
+
+    let edges = edges(rules, points, counts);
+    let v_sign = rules.v_sign();
+    let mut built = vec![0; table.len()];
+    built[0] = edges.iter().map(|edge| edge.shoelace()).sum();
+
+    // The cell's edge values of h, v and d; zeros are left out, for an edge
+    // has none but zeros in nearly all cells.
+    let mut values = [Vec::new(), Vec::new(), Vec::new()];
+    for j in 0..depth(side) {
+        for cy in 0..1 << j {
+            for cx in 0..1 << j {
+                let cell = Cell::of(side, j, cx, cy);
+                let across = rules.distance(cell.left, cell.width);
+                let down = rules.distance(cell.top, cell.width);
+                for edge in &edges {
+                    let details = edge.details_by(v_sign, cell, &across, &down);
+                    for (list, value) in values.iter_mut().zip(details) {
+                        if value.num != 0 {
+                            list.push(value);
+                        }
+                    }
+                }
+                let first = place(j, cx, cy);
+                for (k, list) in values.iter_mut().enumerate() {
+                    built[first + k] = rules.entry(list);
+                    list.clear();
+                }
+            }
+        }
+    }
+    Ok((counts.iter().sum(), built))
+}
+
+/// Where the entries h, v, d of a cell begin: 4^j + 3 × (cy × 2^j + cx).
+pub(crate) fn place(j: u32, cx: u32, cy: u32) -> usize {
+    (1 << (2 * j)) + 3 * (((cy as usize) << j) + cx as usize)
+}

@@ -1,0 +1,93 @@
+//! Pseudo-random outlines for the tests, the same at each run.
+#![allow(dead_code)]
+
+/// An outline that building accepts.
+#[derive(Clone, Debug)]
+pub struct Outline {
+    pub side: u32,
+    pub points: Vec<i64>,
+    pub counts: Vec<u32>,
+    /// Whether every edge is level, upright or at 45 degrees.
+    pub straight: bool,
+}
+
+impl Outline {
+    pub fn depth(&self) -> u32 {
+        self.side.trailing_zeros()
+    }
+
+    pub fn edges(&self) -> u32 {
+        self.counts.iter().sum()
+    }
+
+    pub fn noughts(&self) -> Vec<i64> {
+        vec![0; (self.side * self.side) as usize]
+    }
+}
+
+/// A 64-bit linear congruence, of which the upper half is used.
+pub struct Random(pub u64);
+
+impl Random {
+    /// A number from 0 up to below `below`.
+    pub fn below(&mut self, below: i64) -> i64 {
+        self.0 = self.0.wrapping_mul(6_364_136_223_846_793_005).wrapping_add(1_442_695_040_888_963_407);
+        (self.0 >> 33) as i64 % below
+    }
+
+    /// A random outline of some side from 1 to 64, with few edges.
+    pub fn outline(&mut self) -> Outline {
+        let side = 1 << self.below(7);
+        self.outline_of(side)
+    }
+
+    pub fn outline_of(&mut self, side: u32) -> Outline {
+        let far = 256 * i64::from(side);
+        let kind = self.below(5);
+        let (mut points, mut counts) = (Vec::new(), Vec::new());
+        for _ in 0..1 + self.below(3) {
+            let before = points.len();
+            match kind {
+                // Anywhere on the tile.
+                0 => (0..2 * (3 + self.below(6))).for_each(|_| points.push(self.below(far + 1))),
+                // Close together, mostly across a few cells.
+                1 => {
+                    let reach = 1 + self.below(far.min(600));
+                    let corner = [self.below(far + 1 - reach), self.below(far + 1 - reach)];
+                    for _ in 0..3 + self.below(6) {
+                        points.extend(corner.map(|c| c + self.below(reach + 1)));
+                    }
+                }
+                // On the corners of cells, some of them the border's, with
+                // repeated points.
+                2 => (0..2 * (3 + self.below(6))).for_each(|_| points.push(256 * self.below(far / 256 + 1))),
+                // Long thin slivers, nearly level or nearly upright.
+                3 => {
+                    let (a, b) = (self.below(far), self.below(far));
+                    let sliver = [0, a, far, a + 1, b, a];
+                    let turned = self.below(2) as usize;
+                    points.extend((0..6).map(|i| sliver[i ^ turned]));
+                }
+                // A square on its corner or on its side: straight edges only.
+                _ => {
+                    let r = 1 + self.below(far / 2);
+                    let [x, y] = [0; 2].map(|_: i64| r + self.below(far + 1 - 2 * r));
+                    let on_corner = [x, y - r, x + r, y, x, y + r, x - r, y];
+                    let on_side = [x - r, y - r, x + r, y - r, x + r, y + r, x - r, y + r];
+                    points.extend(if self.below(2) == 0 { on_corner } else { on_side });
+                }
+            }
+            counts.push(((points.len() - before) / 2) as u32);
+            if self.below(3) == 0 {
+                reverse(&mut points[before..]);
+            }
+        }
+        Outline { side, points, counts, straight: kind == 4 }
+    }
+}
+
+/// The contour run the other way.
+pub fn reverse(contour: &mut [i64]) {
+    contour.reverse();
+    contour.chunks_mut(2).for_each(|pair| pair.swap(0, 1));
+}
