@@ -5,6 +5,7 @@ use crate::edge::{Bend, Fraction, Profile};
 use crate::exact::Exact;
 use crate::questions::{Limits, Question};
 use crate::rules::Rules;
+use crate::PIXEL;
 
 /// All variants, each with a short name.
 pub fn all() -> Vec<(&'static str, Box<dyn Rules>)> {
@@ -18,6 +19,9 @@ pub fn all() -> Vec<(&'static str, Box<dyn Rules>)> {
         ("closing edge left out", Box::new(NoClosingEdge)),
         ("question 3 asked before question 5", Box::new(OtherOrder)),
         ("one edge too many accepted", Box::new(OneEdgeMore)),
+        ("an entry one past the limit drawn", Box::new(OneUnitMore)),
+        ("a cell's entries asked for before its numbers", Box::new(EntriesFirst)),
+        ("a grey's halves rounded down", Box::new(GreyHalvesDown)),
     ]
 }
 
@@ -108,5 +112,35 @@ pub struct OneEdgeMore;
 impl Rules for OneEdgeMore {
     fn limits(&self) -> Limits {
         Limits { most_edges: Limits::SPEC.most_edges + 1, ..Limits::SPEC }
+    }
+}
+
+/// Wrong: an entry of 2^40 + 1 is drawn.
+pub struct OneUnitMore;
+
+impl Rules for OneUnitMore {
+    fn limits(&self) -> Limits {
+        Limits { largest_entry: Limits::SPEC.largest_entry + 1, ..Limits::SPEC }
+    }
+}
+
+/// Wrong: one cell is asked question 9 before question 10, not after it.
+pub struct EntriesFirst;
+
+impl Rules for EntriesFirst {
+    fn one_cell(&self) -> Vec<Question> {
+        use Question::*;
+        vec![Side, TableLength, Level, Entries, CellNumbers]
+    }
+}
+
+/// Wrong: a cell that is half ink is 127 and not 128.
+pub struct GreyHalvesDown;
+
+impl Rules for GreyHalvesDown {
+    fn grey(&self, figure: i64, side: u32) -> u8 {
+        let full = i128::from(PIXEL) * i128::from(side) * i128::from(side);
+        let nearest = -(full - 2 * 255 * i128::from(figure)).div_euclid(2 * full);
+        nearest.clamp(0, 255) as u8
     }
 }

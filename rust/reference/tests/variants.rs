@@ -85,11 +85,39 @@ fn one_edge_more() {
     assert_eq!(refused(&OneEdgeMore, 26), Err(5));
 }
 
+#[test]
+fn one_unit_more() {
+    let drawn = |rules: &dyn Rules, entry| figures(rules, 1, 0, &[entry], 1);
+    assert_eq!(drawn(&Spec, (1 << 40) + 1), Err(9));
+    assert_eq!(drawn(&OneUnitMore, (1 << 40) + 1), Ok(vec![(1 << 40) + 1]));
+    assert_eq!(drawn(&OneUnitMore, (1 << 40) + 2), Err(9));
+}
+
+#[test]
+fn entries_first() {
+    let refused = |rules: &dyn Rules| cell(rules, 1, 0, 1, 0, &[i64::MAX]);
+    assert_eq!((refused(&Spec), refused(&EntriesFirst)), (Err(10), Err(9)));
+}
+
+#[test]
+fn grey_halves_down() {
+    let grey = |rules: &dyn Rules, figure| greys(rules, 1, 0, &[figure], 1).unwrap()[0];
+    assert_eq!((grey(&Spec, 65_536), grey(&GreyHalvesDown, 65_536)), (128, 127));
+    assert_eq!(grey(&GreyHalvesDown, 65_537), 128);
+}
+
 /// Variants of rounding, building or drawing show on random outlines; those of
 /// refusing do not, for these outlines are accepted. None of them panics.
 #[test]
 fn random_outlines_tell_most_variants() {
-    let unseen = ["question 3 asked before question 5", "one edge too many accepted"];
+    let unseen = [
+        "question 3 asked before question 5",
+        "one edge too many accepted",
+        "an entry one past the limit drawn",
+        "a cell's entries asked for before its numbers",
+        // no cell of these outlines is just half ink
+        "a grey's halves rounded down",
+    ];
     for (name, rules) in wrong::all() {
         let mut random = Random(9);
         let mut differ = 0;
