@@ -1,0 +1,273 @@
+//! What is measured: our calls, and the same pictures drawn by the other rasterisers.
+
+use crate::inputs::{Input, Outline, DEPTH, EDGES, SIDE};
+use crate::others::{Library, Rasteriser, LIBRARIES};
+use std::hint::black_box;
+use std::ops::RangeInclusive;
+
+#[derive(Clone, Copy, PartialEq, Debug)]
+pub enum Size {
+    /// The full size: 64 × 64.
+    Full,
+    /// The full size and its six halvings.
+    All,
+}
+
+impl Size {
+    fn levels(self) -> RangeInclusive<u32> {
+        match self {
+            Size::Full => DEPTH..=DEPTH,
+            Size::All => 0..=DEPTH,
+        }
+    }
+}
+
+#[derive(Clone, Copy, PartialEq, Debug)]
+pub enum Case {
+    Build,
+    Draw(Size),
+    BuildAndDraw(Size),
+    Other(Library, Size),
+}
+
+use Case::{Build, BuildAndDraw, Draw, Other};
+use Size::{All, Full};
+
+/// In the order of the page, those that draw the same under one another.
+pub const CASES: [Case; 9] = [
+    Build,
+    Draw(Full),
+    Draw(All),
+    BuildAndDraw(Full),
+    Other(Library::FreeType, Full),
+    Other(Library::Agg, Full),
+    BuildAndDraw(All),
+    Other(Library::FreeType, All),
+    Other(Library::Agg, All),
+];
+
+impl Case {
+    /// Those that can be run in this build.
+    pub fn all() -> Vec<Case> {
+        CASES.into_iter().filter(|case| case.is_there()).collect()
+    }
+
+    fn is_there(self) -> bool {
+        match self {
+            Other(library, _) => library.is_there(),
+            _ => true,
+        }
+    }
+
+    /// What another rasteriser's case is compared with: the same pictures from the same points.
+    pub fn ours(self) -> Option<Case> {
+        match self {
+            Other(_, size) => Some(BuildAndDraw(size)),
+            _ => None,
+        }
+    }
+
+    pub fn title(self) -> String {
+        match self {
+            Build => "building the table".into(),
+            Draw(Full) => "level 6 from the table".into(),
+            Draw(All) => "all seven levels from the table".into(),
+            BuildAndDraw(Full) => "**building, and level 6**".into(),
+            BuildAndDraw(All) => "**building, and all seven levels**".into(),
+            Other(library, Full) => format!("{}, 64 × 64", library.name()),
+            Other(library, All) => format!("{}, all seven sizes", library.name()),
+        }
+    }
+}
+
+/// The outlines of an input, with everything that the cases write to.
+pub struct Work {
+    tiles: Vec<Tile>,
+    /// The one whose turn it is.
+    turn: usize,
+    /// One for each level, from the single pixel on.
+    pictures: Vec<Vec<u8>>,
+    others: Vec<(Library, Rasteriser)>,
+}
+
+/// An outline and its table.
+struct Tile {
+    outline: Outline,
+    table: Vec<i64>,
+}
+
+impl Work {
+    /// The tables are built at once, for the cases that only draw from them.
+    pub fn new(input: Input, variants: usize) -> Result<Work, String> {
+        let open = |library| Some((library, Rasteriser::open(library)?));
+        let tile = |outline| Tile { outline, table: vec![0; (SIDE * SIDE) as usize] };
+        let mut work = Work {
+            tiles: input.outlines(variants).into_iter().map(tile).collect(),
+            turn: 0,
+            pictures: (0..=DEPTH).map(|level| vec![0; cells(level)]).collect(),
+            others: LIBRARIES.into_iter().filter_map(open).collect(),
+        };
+        work.run_all(Build)?;
+        Ok(work)
+    }
+
+    /// Runs a case once for each outline.
+    pub fn run_all(&mut self, case: Case) -> Result<(), String> {
+        for turn in 0..self.tiles.len() {
+            self.turn = turn;
+            self.run(case)?;
+        }
+        Ok(())
+    }
+
+    /// Every call's answer is looked at.
+    fn run(&mut self, case: Case) -> Result<(), String> {
+        match case {
+            Build => self.build(),
+            Draw(size) => self.draw(size),
+            BuildAndDraw(size) => {
+                self.build()?;
+                self.draw(size)
+            }
+            Other(library, size) => self.draw_by(library, size),
+        }
+    }
+
+    fn build(&mut self) -> Result<(), String> {
+        let Tile { outline, table } = black_box(&mut self.tiles[self.turn]);
+        let edges = mattuliyan::build(SIDE, &outline.points, &outline.counts, table);
+        black_box(table);
+        match edges {
+            Ok(edges) if edges as usize == EDGES => Ok(()),
+            other => Err(format!("build answered {other:?}")),
+        }
+    }
+
+    fn draw(&mut self, size: Size) -> Result<(), String> {
+        for level in size.levels() {
+            let picture = &mut self.pictures[level as usize];
+            mattuliyan::greys(SIDE, level, black_box(&self.tiles[self.turn].table), picture)
+                .map_err(|number| format!("greys of level {level} answered {number}"))?;
+            black_box(picture);
+        }
+        Ok(())
+    }
+
+    fn draw_by(&mut self, library: Library, size: Size) -> Result<(), String> {
+        let found = self.others.iter_mut().find(|(each, _)| *each == library);
+        let (_, rasteriser) = found.ok_or_else(|| format!("there is no {}", library.name()))?;
+        for level in size.levels() {
+            let picture = &mut self.pictures[level as usize];
+            rasteriser
+                .draw(black_box(&self.tiles[self.turn].outline), level, picture)
+                .map_err(|number| format!("{} failed with {number} at level {level}", library.name()))?;
+            black_box(picture);
+        }
+        Ok(())
+    }
+
+    pub fn outlines(&self) -> usize {
+        self.tiles.len()
+    }
+
+    pub fn versions(&self) -> Vec<(Library, String)> {
+        self.others.iter().map(|(library, rasteriser)| (*library, rasteriser.version())).collect()
+    }
+
+    /// By how many greys, at most, a library's pictures of a level differ from ours, pixels of negative area left out: the
+    /// others draw the magnitude there, and ours is white.
+    pub fn greatest_difference(&mut self, library: Library, level: u32) -> Result<u8, String> {
+        let mut greatest = 0;
+        for turn in 0..self.tiles.len() {
+            self.turn = turn;
+            let mut figures = vec![0; cells(level)];
+            mattuliyan::figures(SIDE, level, &self.tiles[turn].table, &mut figures)
+                .map_err(|number| format!("figures of level {level} answered {number}"))?;
+            self.run(Draw(All))?;
+            let ours = self.pictures[level as usize].clone();
+            self.run(Other(library, All))?;
+            for ((a, b), figure) in ours.iter().zip(&self.pictures[level as usize]).zip(figures) {
+                if !is_negative(figure) {
+                    greatest = greatest.max(a.abs_diff(*b));
+                }
+            }
+        }
+        Ok(greatest)
+    }
+}
+
+/// Is a figure negative by half a grey or more? A little less than 0 may come from rounding alone.
+fn is_negative(figure: i64) -> bool {
+    const UNITS_PER_PIXEL: i64 = 131_072;
+    const FULL: i64 = UNITS_PER_PIXEL * (SIDE * SIDE) as i64;
+    const HALF_GREYS: i64 = 2 * 255;
+    figure <= -FULL / HALF_GREYS
+}
+
+/// The pixels of a level.
+fn cells(level: u32) -> usize {
+    1 << (2 * level)
+}
+
+#[cfg(test)]
+mod tests {
+    use super::*;
+    use crate::inputs::{INPUTS, VARIANTS};
+
+    #[test]
+    fn every_case_runs_and_writes_its_pictures() {
+        for input in INPUTS {
+            let mut work = Work::new(input, 2).unwrap();
+            assert!(work.tiles.iter().all(|tile| tile.table.iter().any(|&entry| entry != 0)));
+            for case in Case::all() {
+                // a grey that neither input has in every pixel
+                const BEFORE: u8 = 77;
+                work.pictures.iter_mut().for_each(|picture| picture.fill(BEFORE));
+                work.run_all(case).unwrap();
+                let drawn = |picture: &Vec<u8>| picture.iter().any(|&grey| grey != BEFORE);
+                let levels = work.pictures.iter().filter(|picture| drawn(picture)).count();
+                let expected = match case {
+                    Build => 0,
+                    Draw(Full) | BuildAndDraw(Full) | Other(_, Full) => 1,
+                    Draw(All) | BuildAndDraw(All) | Other(_, All) => 7,
+                };
+                assert_eq!(levels, expected, "{input:?}, {case:?}");
+            }
+        }
+    }
+
+    #[test]
+    fn the_letter_has_ink_paper_and_a_counter() {
+        let mut work = Work::new(Input::Letter, 2).unwrap();
+        work.run_all(Draw(All)).unwrap();
+        let picture = &work.pictures[DEPTH as usize];
+        let at = |x: usize, y: usize| picture[y * SIDE as usize + x];
+        assert_eq!((at(0, 0), at(32, 32), at(32, 12), at(12, 32)), (0, 0, 255, 255));
+    }
+
+    #[test]
+    fn letters_have_no_negative_area() {
+        let work = Work::new(Input::Letter, VARIANTS).unwrap();
+        for tile in &work.tiles {
+            for level in 0..=DEPTH {
+                let mut figures = vec![0; cells(level)];
+                mattuliyan::figures(SIDE, level, &tile.table, &mut figures).unwrap();
+                assert!(!figures.into_iter().any(is_negative));
+            }
+        }
+        assert!(is_negative(-131_072 * 64 * 64 / 255) && !is_negative(0) && !is_negative(-1));
+    }
+
+    /// Greys that the others may be off: FreeType rounds points to 1/64 pixel, and both cut the share of ink off at 1/256.
+    #[test]
+    fn the_others_draw_the_same_letter() {
+        const ALLOWED: u8 = 6;
+        for library in LIBRARIES.into_iter().filter(|library| library.is_there()) {
+            let mut work = Work::new(Input::Letter, 2).unwrap();
+            for level in 0..=DEPTH {
+                let difference = work.greatest_difference(library, level).unwrap();
+                assert!(difference <= ALLOWED, "{library:?}, level {level}: {difference}");
+            }
+        }
+    }
+}
