@@ -115,8 +115,6 @@ fn random_outlines_tell_most_variants() {
         "one edge too many accepted",
         "an entry one past the limit drawn",
         "a cell's entries asked for before its numbers",
-        // no cell of these outlines is just half ink
-        "a grey's halves rounded down",
     ];
     for (name, rules) in wrong::all() {
         let mut random = Random(9);
