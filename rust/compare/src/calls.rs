@@ -12,7 +12,7 @@ impl Display for Difference {
     }
 }
 
-/// Building: the answer that both give, with the table that both leave.
+/// Building: what the library answers and leaves, which the reference says too.
 pub fn build(
     rules: &dyn Rules,
     side: u32,
@@ -21,16 +21,17 @@ pub fn build(
     held: &[i64],
 ) -> Result<Result<(u32, Vec<i64>), u8>, Difference> {
     let expected = reference::build(rules, side, points, counts, held);
-    let lent = (points.to_vec(), counts.to_vec());
-    let (answer, left) = guarded("build", held, |table| mattuliyan::build(side, points, counts, table))?;
-    same("the points and counts after build", &(points, counts), &(&lent.0[..], &lent.1[..]))?;
+    let (lent_points, lent_counts, mut table) = (Guarded::new(points), Guarded::new(counts), Guarded::new(held));
+    let answer = mattuliyan::build(side, lent_points.get(), lent_counts.get(), table.get_mut());
+    lent_points.same("the points after build", points)?;
+    lent_counts.same("the counts after build", counts)?;
     let answered = expected.as_ref().map(|&(edges, _)| edges).map_err(|&number| number);
     same("what build answers", &answer, &answered)?;
-    same_list("the table after build", &left, expected.as_ref().map_or(held, |(_, table)| table))?;
-    Ok(expected)
+    table.same("the table after build", expected.as_ref().map_or(held, |(_, table)| table))?;
+    Ok(answer.map(|edges| (edges, table.get().to_vec())))
 }
 
-/// A picture of figures: the answer that both give, with the picture that both leave.
+/// A picture of figures: what the library answers and leaves, which the reference says too.
 pub fn figures(
     rules: &dyn Rules,
     side: u32,
@@ -39,7 +40,7 @@ pub fn figures(
     held: &[i64],
 ) -> Result<Result<Vec<i64>, u8>, Difference> {
     let expected = reference::figures(rules, side, level, table, held.len());
-    picture("figures", table, held, expected, |picture| mattuliyan::figures(side, level, table, picture))
+    picture("figures", table, held, expected, |table, picture| mattuliyan::figures(side, level, table, picture))
 }
 
 /// A picture of greys, likewise.
@@ -51,10 +52,10 @@ pub fn greys(
     held: &[u8],
 ) -> Result<Result<Vec<u8>, u8>, Difference> {
     let expected = reference::greys(rules, side, level, table, held.len());
-    picture("greys", table, held, expected, |picture| mattuliyan::greys(side, level, table, picture))
+    picture("greys", table, held, expected, |table, picture| mattuliyan::greys(side, level, table, picture))
 }
 
-/// One cell: the answer that both give.
+/// One cell: what the library answers, which the reference says too.
 pub fn cell(
     rules: &dyn Rules,
     side: u32,
@@ -64,47 +65,93 @@ pub fn cell(
     table: &[i64],
 ) -> Result<Result<i64, u8>, Difference> {
     let expected = reference::cell(rules, side, level, cx, cy, table);
-    let lent = table.to_vec();
-    let answer = mattuliyan::cell(side, level, cx, cy, table);
-    same_list("the table after cell", table, &lent)?;
+    let lent = Guarded::new(table);
+    let answer = mattuliyan::cell(side, level, cx, cy, lent.get());
+    lent.same("the table after cell", table)?;
     same("what cell answers", &answer, &expected)?;
-    Ok(expected)
+    Ok(answer)
 }
 
-fn picture<T: Byte>(
+fn picture<T: Element>(
     name: &str,
     table: &[i64],
     held: &[T],
     expected: Result<Vec<T>, u8>,
-    call: impl FnOnce(&mut [T]) -> Result<(), u8>,
+    call: impl FnOnce(&[i64], &mut [T]) -> Result<(), u8>,
 ) -> Result<Result<Vec<T>, u8>, Difference> {
-    let lent = table.to_vec();
-    let (answer, left) = guarded(name, held, call)?;
-    same_list(&format!("the table after {name}"), table, &lent)?;
+    let (lent, mut picture) = (Guarded::new(table), Guarded::new(held));
+    let answer = call(lent.get(), picture.get_mut());
+    lent.same(&format!("the table after {name}"), table)?;
     same(&format!("what {name} answers"), &answer, &expected.as_ref().map(|_| ()).map_err(|&number| number))?;
-    same_list(&format!("the picture after {name}"), &left, expected.as_ref().map_or(held, |picture| picture))?;
-    Ok(expected)
+    picture.same(&format!("the picture after {name}"), expected.as_ref().map_or(held, |picture| picture))?;
+    Ok(answer.map(|()| picture.get().to_vec()))
 }
 
-/// Elements of a buffer: any byte is one.
-pub trait Byte: Copy + PartialEq + Debug + From<u8> {}
-impl Byte for u8 {}
-impl Byte for i64 {}
+/// Elements of the buffers that are lent.
+trait Element: Copy + PartialEq + Debug {
+    /// What stands around a buffer. No call writes it as its answer; and where a coordinate, a count or an entry can be refused, it is one that
+    /// is, so that reading it shows.
+    const MARK: Self;
+    fn low_bits(self) -> usize;
+}
 
-/// Elements on each side of a buffer, in which a write past its ends shows.
-const MARGIN: usize = 24;
-/// What these hold: neither 0 nor any grey that is drawn often.
-const MARK: u8 = 0xa5;
-
-/// Makes a call on a buffer that stands between two margins; what it answers, and what the buffer holds afterwards.
-fn guarded<T: Byte, A>(name: &str, held: &[T], call: impl FnOnce(&mut [T]) -> A) -> Result<(A, Vec<T>), Difference> {
-    let mark = T::from(MARK);
-    let mut all = [&[mark; MARGIN][..], held, &[mark; MARGIN]].concat();
-    let answer = call(&mut all[MARGIN..MARGIN + held.len()]);
-    if all[..MARGIN].iter().chain(&all[MARGIN + held.len()..]).any(|&element| element != mark) {
-        return Err(Difference(format!("{name} writes outside its buffer")));
+impl Element for u8 {
+    const MARK: u8 = 0xa5;
+    fn low_bits(self) -> usize {
+        self.into()
     }
-    Ok((answer, all[MARGIN..MARGIN + held.len()].to_vec()))
+}
+
+impl Element for u32 {
+    const MARK: u32 = u32::MAX;
+    fn low_bits(self) -> usize {
+        self as usize
+    }
+}
+
+impl Element for i64 {
+    const MARK: i64 = i64::MIN;
+    fn low_bits(self) -> usize {
+        self as u32 as usize
+    }
+}
+
+/// A copy of a list, to be lent between two margins: what is read or written past its ends shows.
+struct Guarded<T> {
+    all: Vec<T>,
+    first: usize,
+    length: usize,
+}
+
+impl<T: Element> Guarded<T> {
+    /// Elements on each side, at the least.
+    const MARGIN: usize = 24;
+    /// There are up to so many more before it, told from what is in it, so that buffers begin at every address that they may have.
+    const SHIFTS: usize = 16;
+
+    fn new(list: &[T]) -> Guarded<T> {
+        let mixed = list.iter().take(8).fold(list.len(), |sum, element| sum.wrapping_mul(31) ^ element.low_bits());
+        let first = Self::MARGIN + mixed % Self::SHIFTS;
+        let all = [&vec![T::MARK; first], list, &vec![T::MARK; Self::MARGIN]].concat();
+        Guarded { all, first, length: list.len() }
+    }
+
+    fn get(&self) -> &[T] {
+        &self.all[self.first..self.first + self.length]
+    }
+
+    fn get_mut(&mut self) -> &mut [T] {
+        &mut self.all[self.first..self.first + self.length]
+    }
+
+    /// Is this the list now, and is nothing written around it?
+    fn same(&self, what: &str, expected: &[T]) -> Result<(), Difference> {
+        let after = &self.all[self.first + self.length..];
+        if self.all[..self.first].iter().chain(after).any(|&element| element != T::MARK) {
+            return Err(Difference(format!("{what}: something is written outside it")));
+        }
+        same_list(what, self.get(), expected)
+    }
 }
 
 fn same<T: PartialEq + Debug>(what: &str, found: &T, expected: &T) -> Result<(), Difference> {
@@ -129,19 +176,22 @@ mod tests {
 
     #[test]
     fn writes_outside_a_buffer_are_seen() {
-        // A call that keeps a pointer may write past the slice that it was handed; here it writes to the margin itself.
-        fn before(picture: &mut [u8]) {
-            // SAFETY: the margin stands before the slice, in the same allocation; this is what a wrong library would do.
-            unsafe { *picture.as_mut_ptr().sub(1) = 0 }
+        let mut guarded = Guarded::new(&[1u8, 2, 3]);
+        guarded.get_mut()[2] = 9;
+        assert!(guarded.same("inside", &[1, 2, 9]).is_ok());
+        assert!(guarded.same("inside", &[1, 2, 3]).is_err());
+        let end = guarded.first + guarded.length;
+        for outside in [0, guarded.first - 1, end, guarded.all.len() - 1] {
+            let mut guarded = Guarded::new(&[1u8, 2, 3]);
+            guarded.all[outside] = 0; // what a wrong library would do
+            assert!(guarded.same("outside", &[1, 2, 3]).is_err());
         }
-        fn after(picture: &mut [u8]) {
-            // SAFETY: as above, after it.
-            unsafe { *picture.as_mut_ptr().add(picture.len()) = 0 }
-        }
-        assert!(guarded("before", &[1, 2, 3], before).is_err());
-        assert!(guarded("after", &[1, 2, 3], after).is_err());
-        let (_, left) = guarded("inside", &[1, 2, 3], |picture: &mut [u8]| picture[2] = 9).unwrap();
-        assert_eq!(left, [1, 2, 9]);
+    }
+
+    #[test]
+    fn buffers_begin_at_every_address() {
+        let begins: std::collections::BTreeSet<usize> = (0..=255u8).map(|byte| Guarded::new(&[byte]).first).collect();
+        assert_eq!(begins.len(), Guarded::<u8>::SHIFTS);
     }
 
     #[test]

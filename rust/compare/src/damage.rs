@@ -5,12 +5,26 @@ use crate::random::Random;
 /// Question 9: an entry's limit, either way.
 pub const ENTRY_LIMIT: i64 = 1 << 40;
 
-/// Numbers that are no side of a tile, next to those that are and at the ends.
-const NO_SIDES: [u32; 16] = [0, 3, 5, 6, 7, 9, 12, 24, 33, 48, 63, 65, 96, 128, 1 << 31, u32::MAX];
+/// Added to a number, this is lost where only 16 bits are looked at.
+const BEYOND_16_BITS: u32 = 1 << 16;
+/// Numbers that are no side of a tile: small ones, the next powers of two, the ends.
+const NO_SIDES: [u32; 10] = [0, 3, 15, 17, 31, 63, 65, 128, 1 << 31, u32::MAX];
 /// Counts that no contour has.
-const NO_COUNTS: [u32; 6] = [0, 1, 2, 1025, 1 << 31, u32::MAX];
+const NO_COUNTS: [u32; 9] = [0, 1, 2, 1025, 2000, BEYOND_16_BITS + 3, BEYOND_16_BITS + 1024, 1 << 31, u32::MAX];
 /// Levels past every depth, some of which would shift a word out of its width.
-const NO_LEVELS: [u32; 7] = [7, 8, 16, 31, 32, 64, u32::MAX];
+const NO_LEVELS: [u32; 11] = [7, 8, 16, 31, 32, 64, 100, 256, BEYOND_16_BITS, 1 << 31, u32::MAX];
+/// Entries at the limit, and past it by little and by much.
+const ENTRIES: [i64; 9] = [
+    ENTRY_LIMIT,
+    -ENTRY_LIMIT,
+    ENTRY_LIMIT + 1,
+    -ENTRY_LIMIT - 1,
+    2 * ENTRY_LIMIT,
+    1 << 48,
+    -(1 << 62),
+    i64::MIN,
+    i64::MAX,
+];
 
 pub struct Building {
     pub side: u32,
@@ -47,7 +61,7 @@ pub fn building(random: &mut Random, outline: &Outline) -> Building {
         Building { side: outline.side, points: outline.points.clone(), counts: outline.counts.clone(), table };
     for _ in 0..random.within(1, 2) {
         match random.index(9) {
-            0 => call.side = random.pick(&NO_SIDES),
+            0 => no_side(random, &mut call.side, &mut call.table),
             1 => call.side = random.pick(&SIDES),
             2 => resize(random, &mut call.table),
             3 => put(random, &mut call.counts, NO_COUNTS),
@@ -59,8 +73,9 @@ pub fn building(random: &mut Random, outline: &Outline) -> Building {
                 put(random, &mut call.points, [-1, limit, limit + 1, i64::MIN, i64::MAX, 1 << 32])
             }
             _ => {
-                // more contours than any outline has, each a right one
-                call.counts = vec![3; random.within(342, 3000) as usize];
+                // more contours than any outline has, each a right one; 64 of the longest have a sum of 2^16
+                let many = random.within(342, 3000) as usize;
+                call.counts = if random.once_in(4) { vec![1024; 64] } else { vec![3; many] };
                 call.points = vec![0; if random.once_in(2) { 6 * call.counts.len() } else { call.points.len() }];
             }
         }
@@ -91,22 +106,28 @@ pub fn drawing(random: &mut Random, side: u32) -> Drawing {
     };
     for _ in 0..random.within(1, 2) {
         match random.index(8) {
-            0 => call.side = random.pick(&NO_SIDES),
+            0 => no_side(random, &mut call.side, &mut call.table),
             1 => call.side = random.pick(&SIDES),
             2 => resize(random, &mut call.table),
             3 => call.level = random.pick(&NO_LEVELS),
             4 => call.level = side.trailing_zeros() + random.index(2) as u32,
             5 => {
-                call.places =
-                    random.pick(&[0, call.places + 1, call.places.saturating_sub(1), 4 * call.places, call.places / 4])
+                let places = call.places;
+                call.places = random.pick(&[
+                    0,
+                    places + 1,
+                    places.saturating_sub(1),
+                    places / 4,
+                    2 * places,
+                    4 * places,
+                    across as usize,
+                    places + BEYOND_16_BITS as usize,
+                ]);
             }
-            6 => put(
-                random,
-                &mut call.table,
-                [ENTRY_LIMIT, -ENTRY_LIMIT, ENTRY_LIMIT + 1, -ENTRY_LIMIT - 1, i64::MIN, i64::MAX],
-            ),
+            6 => put(random, &mut call.table, ENTRIES),
             _ => {
-                let number = random.pick(&[across, across - 1, 2 * across, 1 << 31, u32::MAX]);
+                let beyond = across + random.index(across as usize) as u32;
+                let number = random.pick(&[across, across - 1, 2 * across, beyond, BEYOND_16_BITS, 1 << 31, u32::MAX]);
                 *random.pick_mut(&mut call.cx, &mut call.cy) = number;
             }
         }
@@ -122,10 +143,32 @@ fn put<T: Copy, const N: usize>(random: &mut Random, list: &mut [T], values: [T;
     }
 }
 
-/// The list becomes one or two longer or shorter, empty, or twice as long.
+/// The list becomes one or two longer or shorter, empty, twice as long, or longer by 2^16.
 fn resize(random: &mut Random, list: &mut Vec<i64>) {
     let length = list.len();
-    let length =
-        random.pick(&[0, 2 * length, length + 1, length + 2, length.saturating_sub(1), length.saturating_sub(2)]);
+    let length = random.pick(&[
+        0,
+        2 * length,
+        length + 1,
+        length + 2,
+        length.saturating_sub(1),
+        length.saturating_sub(2),
+        length + BEYOND_16_BITS as usize,
+    ]);
     list.resize(length, 0);
+}
+
+/// The side becomes one that no tile has, and half the time the table one that would fit it.
+fn no_side(random: &mut Random, side: &mut u32, table: &mut Vec<i64>) {
+    const MOST: u32 = 100; // a table for a greater side would be a large one
+    let any = random.within(0, MOST.into()) as u32;
+    *side = match random.index(4) {
+        0 => side.wrapping_add(256), // lost where only 8 bits are looked at
+        1 => side.wrapping_add(BEYOND_16_BITS),
+        2 if !SIDES.contains(&any) => any,
+        _ => random.pick(&NO_SIDES),
+    };
+    if *side <= MOST && random.once_in(2) {
+        table.resize((*side * *side) as usize, 0);
+    }
 }

@@ -17,6 +17,8 @@ use demand3::Worst;
 use outlines::{Outline, SIDES};
 use random::Random;
 use reference::Rules;
+use std::panic::{catch_unwind, AssertUnwindSafe};
+use std::sync::atomic::{AtomicU64, Ordering};
 
 /// One case in so many has a large outline, of up to 1,024 edges: those take the most time.
 const LARGE_ONE_IN: u64 = 100;
@@ -204,22 +206,35 @@ fn damaged_drawing(rules: &dyn Rules, random: &mut Random, side: u32, seen: &mut
     Ok(())
 }
 
-/// The cases of these numbers, on all processors: what was seen, or the first case that fails on some processor, with what is wrong there.
+/// The cases of these numbers, on all processors: what was seen, or the first case that fails, with what is wrong there.
 pub fn run(seed: u64, numbers: std::ops::Range<u64>) -> Result<Seen, (u64, Difference)> {
     let threads = std::thread::available_parallelism().map_or(1, |n| n.get() as u64);
+    // no case after one that failed need be tried
+    let end = AtomicU64::new(numbers.end);
     let part = |first: u64| {
         let mut seen = Seen::default();
-        for number in (numbers.start + first..numbers.end).step_by(threads as usize) {
-            case(&reference::Spec, seed, number, &mut seen).map_err(|difference| (number, difference))?;
+        let mut number = numbers.start + first;
+        while number < end.load(Ordering::Relaxed) {
+            let tried = catch_unwind(AssertUnwindSafe(|| case(&reference::Spec, seed, number, &mut seen)));
+            if let Err(difference) = tried.unwrap_or_else(|_| Err(Difference("a panic, told above".to_string()))) {
+                end.fetch_min(number, Ordering::Relaxed);
+                return Err((number, difference));
+            }
+            number += threads;
         }
         Ok(seen)
     };
-    std::thread::scope(|scope| {
+    let parts: Vec<Result<Seen, (u64, Difference)>> = std::thread::scope(|scope| {
         let running: Vec<_> = (0..threads).map(|first| scope.spawn(move || part(first))).collect();
-        let mut seen = Seen::default();
-        for thread in running {
-            seen.add(thread.join().expect("a thread of the run failed")?);
+        running.into_iter().map(|thread| thread.join().expect("panics are caught in each case")).collect()
+    });
+    let mut seen = Seen::default();
+    let mut failed = Vec::new();
+    for part in parts {
+        match part {
+            Ok(more) => seen.add(more),
+            Err(failure) => failed.push(failure),
         }
-        Ok(seen)
-    })
+    }
+    failed.into_iter().min_by_key(|&(number, _)| number).map_or(Ok(seen), Err)
 }

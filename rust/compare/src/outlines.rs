@@ -1,5 +1,5 @@
-//! Outlines of every kind that 01 accepts: long edges and short, edges that touch grid lines, corners and the border, hairlines, outlines
-//! without area, repeated points, no contour at all.
+//! Accepted outlines of many kinds: long edges and short, edges that touch or cross grid lines, corners and the border, hairlines, outlines
+//! without area, round and round the same points, the same contour twice, no contour at all.
 use crate::random::Random;
 
 /// 01's sides of a tile.
@@ -62,25 +62,38 @@ impl Outline {
 pub fn outline(random: &mut Random, side: u32, large: bool) -> Outline {
     let most = match (large, random.index(8)) {
         (true, 0..4) => MOST_EDGES,
+        (true, 4..6) => random.pick(&[127, 128, 129, 255, 256, 257, 511, 512, 513, MOST_EDGES - 1]),
         (true, _) => random.within(65, MOST_EDGES as i64) as u32,
         (false, 0) => random.within(3, 64) as u32,
         (false, _) => random.within(3, 12) as u32,
     };
     let counts = counts(random, most);
     let kind = random.index(KINDS.len() + 1);
-    let mut points = Vec::new();
+    let limit = STEPS * side as i64;
+    let mut points: Vec<Point> = Vec::new();
     for &count in &counts {
+        let count = count as usize;
         // one kind for the whole outline, or for each contour its own
         let make = *KINDS.get(kind).unwrap_or(&KINDS[random.index(KINDS.len())]);
-        let limit = STEPS * side as i64;
-        let contour = make(random, limit, count as usize);
-        assert_eq!(contour.len(), count as usize);
-        points.extend(contour.iter().flat_map(|&(x, y)| [x.clamp(0, limit), y.clamp(0, limit)]));
+        let contour = match points.len().checked_sub(count) {
+            // the latest points once more, or backwards
+            Some(from) if random.once_in(10) => {
+                let latest = points[from..].iter().copied();
+                if random.once_in(2) {
+                    latest.collect()
+                } else {
+                    latest.rev().collect()
+                }
+            }
+            _ => make(random, limit, count),
+        };
+        assert_eq!(contour.len(), count);
+        points.extend(contour.iter().map(|&(x, y)| (x.clamp(0, limit), y.clamp(0, limit))));
     }
-    Outline { side, points, counts }
+    Outline { side, points: points.iter().flat_map(|&(x, y)| [x, y]).collect(), counts }
 }
 
-/// Counts that add up to `most` edges at the most, or once in a while to none.
+/// Counts that add up to `most` edges, or once in a while none.
 fn counts(random: &mut Random, most: u32) -> Vec<u32> {
     if random.once_in(200) {
         return Vec::new();
@@ -103,13 +116,15 @@ fn counts(random: &mut Random, most: u32) -> Vec<u32> {
 /// A maker of contours: so many points on a tile of so many steps (a point off the tile is moved onto it).
 type Kind = fn(&mut Random, i64, usize) -> Vec<Point>;
 
-const KINDS: [Kind; 10] = [
+const KINDS: [Kind; 12] = [
     anywhere,
     small_steps,
     on_grid_lines,
+    through_grid_points,
     octilinear,
     on_the_border,
     repeated,
+    round_and_round,
     hairline,
     about_a_corner,
     ring,
@@ -142,6 +157,32 @@ fn on_grid_lines(random: &mut Random, limit: i64, count: usize) -> Vec<Point> {
         spacing * random.within(0, limit / spacing) + beside
     };
     (0..count).map(|_| (on_line(random), on_line(random))).collect()
+}
+
+/// Edges of any slope that go through a point where cells meet, or the middle of one.
+fn through_grid_points(random: &mut Random, limit: i64, count: usize) -> Vec<Point> {
+    let spacing = (limit >> random.index(8)).max(1);
+    let mut points = Vec::new();
+    while points.len() < count {
+        let (x, y) = (spacing * random.within(0, limit / spacing), spacing * random.within(0, limit / spacing));
+        let (u, v) = (random.within(-20, 20), random.within(-20, 20));
+        // as far on either side of it as the tile goes, or less
+        let room = |at: i64, step: i64| {
+            if step > 0 {
+                (limit - at) / step
+            } else if step < 0 {
+                at / -step
+            } else {
+                limit
+            }
+        };
+        let most = |u: i64, v: i64| room(x, u).min(room(y, v));
+        let (there, back) = (random.within(0, most(u, v)), random.within(0, most(-u, -v)));
+        points.push((x + u * there, y + v * there));
+        points.push((x - u * back, y - v * back));
+    }
+    points.truncate(count);
+    points
 }
 
 /// Level and upright edges and those at 45 degrees, where nothing is rounded.
@@ -190,6 +231,19 @@ fn repeated(random: &mut Random, limit: i64, count: usize) -> Vec<Point> {
     let few: Vec<Point> =
         (0..random.within(1, 4)).map(|_| (random.within(0, limit), random.within(0, limit))).collect();
     (0..count).map(|_| random.pick(&few)).collect()
+}
+
+/// Round and round the border of the tile or of a half of it, or any few points, always one way: the largest entries that there are.
+fn round_and_round(random: &mut Random, limit: i64, count: usize) -> Vec<Point> {
+    let (width, height) = (random.pick(&[limit, limit / 2]), random.pick(&[limit, limit / 2]));
+    let mut round = vec![(0, 0), (width, 0), (width, height), (0, height)];
+    if random.once_in(2) {
+        round.reverse();
+    }
+    if random.once_in(2) {
+        round = (0..random.within(3, 5)).map(|_| (random.within(0, limit), random.within(0, limit))).collect();
+    }
+    (0..count).map(|i| round[i % round.len()]).collect()
 }
 
 /// There along one line and back along another, a hair's breadth beside it.

@@ -26,7 +26,7 @@ fn wrong_references_are_caught() {
     assert!(first_difference(&Spec).is_none(), "the reference itself differs");
 }
 
-/// 01's letter F on a larger tile, its figures and greys of level 1 as they are drawn.
+/// 01's letter F, its signed area, and its figures and greys of level 1 as they are drawn.
 fn drawn() -> (Outline, i64, [i64; 4], [u8; 4]) {
     let outline = Outline { side: 2, points: vec![0, 0, 384, 1, 0, 1], counts: vec![3] };
     let (mut table, mut figures, mut greys) = ([0; 4], [0; 4], [0; 4]);

@@ -72,19 +72,21 @@ mod c {
     }
 }
 
-/// The answer to a call: done, or the number of a refusal.
-fn answer<T>(number: u32, value: T) -> Result<T, u8> {
-    match number {
-        0 => Ok(value),
-        _ => Err(u8::try_from(number).expect("the questions are numbered from 1 to 10")),
+/// The answer to a call: what it wrote where it is done, or the number of a refusal, which carries 0.
+fn answer<T: Default + PartialEq>(number: u32, written: T) -> Result<T, u8> {
+    if number == 0 {
+        return Ok(written);
     }
+    // Both are proved; this holds the declarations above to the library.
+    assert!(written == T::default(), "a refusal carries 0");
+    Err(u8::try_from(number).expect("the questions are numbered from 1 to 10"))
 }
 
 /// Builds the table of an outline: `points` has x and y of each point in turn, in steps, and `counts` how many points each contour has. The
 /// answer is the number of edges. What the table held before makes no difference.
 pub fn build(side: u32, points: &[i64], counts: &[u32], table: &mut [i64]) -> Result<u32, u8> {
-    let mut edges = 0;
-    // SAFETY: slices of Rust are aligned, of their lengths, and those that are written overlap no other.
+    let mut edges = u32::MAX; // which no call leaves
+                              // SAFETY: slices of Rust are aligned, of their lengths, and those that are written overlap no other.
     let number = unsafe {
         c::mattuliyan_build(
             side,
@@ -118,8 +120,8 @@ pub fn greys(side: u32, level: u32, table: &[i64], picture: &mut [u8]) -> Result
 
 /// The figure of one cell, column `cx` and row `cy` of the level: the one that [`figures`] puts there.
 pub fn cell(side: u32, level: u32, cx: u32, cy: u32, table: &[i64]) -> Result<i64, u8> {
-    let mut figure = 0;
-    // SAFETY: as in `build`.
+    let mut figure = i64::MAX; // which no call leaves
+                               // SAFETY: as in `build`.
     let number = unsafe { c::mattuliyan_cell(side, level, cx, cy, table.as_ptr(), table.len(), &mut figure) };
     answer(number, figure)
 }
