@@ -81,7 +81,7 @@ fn round(options: &Options, first: u64) -> Result<Seen, String> {
 /// Changes the outline with the worst miss a little, again and again, and goes on from each that is worse still.
 fn look_for_worse(random: &mut Random, seen: &mut Seen) -> Result<(), String> {
     for _ in 0..CHANGES {
-        let Some(worst) = &seen.worst else { return Ok(()) };
+        let Some(worst) = seen.worst.as_ref().filter(|worst| worst.ratio > 0.0) else { return Ok(()) };
         let mut outline = worst.outline.clone();
         let limit = compare::outlines::STEPS * outline.side as i64;
         for _ in 0..random.within(1, 4) {
