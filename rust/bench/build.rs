@@ -27,7 +27,6 @@ fn main() {
     println!("cargo::rerun-if-changed=shims");
     let rustc = env::var("RUSTC").unwrap_or_else(|_| "rustc".into());
     set("BENCH_RUSTC", first_line(&rustc, &["--version"]));
-    set("BENCH_RATTLE", first_line("rt", &["version"]));
     for variable in ["PKG_CONFIG_PATH", "PKG_CONFIG_LIBDIR"] {
         println!("cargo::rerun-if-env-changed={variable}");
     }
@@ -76,7 +75,10 @@ fn compile(shim: &Shim, out: &Path) -> Option<()> {
     }
     println!("cargo::rustc-cfg={}", shim.name);
     let variable = shim.name.to_uppercase();
-    set(&format!("BENCH_{variable}_PACKAGE"), first_line("pkg-config", &["--modversion", shim.package]));
+    if shim.name == "agg" {
+        // FreeType tells its version itself.
+        set("BENCH_AGG_PACKAGE", first_line("pkg-config", &["--modversion", shim.package]));
+    }
     set(&format!("BENCH_{variable}_COMPILER"), first_line(&compiler, &["--version"]));
     Some(())
 }

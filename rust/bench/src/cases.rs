@@ -220,12 +220,16 @@ mod tests {
             let mut work = Work::new(input, 2).unwrap();
             assert!(work.tiles.iter().all(|tile| tile.table.iter().any(|&entry| entry != 0)));
             for case in Case::all() {
-                // a grey that neither input has in every pixel
-                const BEFORE: u8 = 77;
-                work.pictures.iter_mut().for_each(|picture| picture.fill(BEFORE));
-                work.run_all(case).unwrap();
-                let drawn = |picture: &Vec<u8>| picture.iter().any(|&grey| grey != BEFORE);
-                let levels = work.pictures.iter().filter(|picture| drawn(picture)).count();
+                // over two greys in turn: a picture of one pixel may have one of them, but not both
+                let mut drawn = vec![false; work.pictures.len()];
+                for before in [77, 78] {
+                    work.pictures.iter_mut().for_each(|picture| picture.fill(before));
+                    work.run_all(case).unwrap();
+                    for (drawn, picture) in drawn.iter_mut().zip(&work.pictures) {
+                        *drawn |= picture.iter().any(|&grey| grey != before);
+                    }
+                }
+                let levels = drawn.into_iter().filter(|&drawn| drawn).count();
                 let expected = match case {
                     Build => 0,
                     Draw(Full) | BuildAndDraw(Full) | Other(_, Full) => 1,
@@ -262,7 +266,11 @@ mod tests {
     #[test]
     fn the_others_draw_the_same_letter() {
         const ALLOWED: u8 = 6;
-        for library in LIBRARIES.into_iter().filter(|library| library.is_there()) {
+        for library in LIBRARIES {
+            if !library.is_there() {
+                println!("{} is not installed; its pictures are not compared", library.name());
+                continue;
+            }
             let mut work = Work::new(Input::Letter, 2).unwrap();
             for level in 0..=DEPTH {
                 let difference = work.greatest_difference(library, level).unwrap();

@@ -1,4 +1,4 @@
-//! The outlines that are measured, of two kinds: always the same, on a tile of side 64, with the most edges that are
+//! The outlines that are measured, of two kinds: the same at each run on one platform, on a tile of side 64, with the most edges that are
 //! accepted.
 
 /// The tile's side in pixels, and its levels below the root.

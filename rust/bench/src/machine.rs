@@ -2,32 +2,48 @@
 
 use crate::others::LIBRARIES;
 use std::fs;
+use std::process::Command;
 
 pub struct Machine {
     pub processor: String,
-    pub cores: usize,
+    /// How many of these the system has.
+    pub processors: usize,
     pub compilers: Vec<String>,
 }
 
 impl Machine {
     pub fn here() -> Machine {
         let cpuinfo = fs::read_to_string("/proc/cpuinfo").unwrap_or_default();
-        let (processor, cores) = processor(&cpuinfo);
+        let (processor, processors) = processor(&cpuinfo);
+        let rattle = rattle().unwrap_or_else(|| "Rattle of unknown version".into());
         let rustc = option_env!("BENCH_RUSTC").unwrap_or("rustc of unknown version");
-        let rattle = option_env!("BENCH_RATTLE").unwrap_or("Rattle of unknown version");
-        let mut compilers = vec![rattle.to_string(), rustc.to_string()];
+        let mut compilers = vec![rattle, rustc.to_string()];
         compilers.extend(LIBRARIES.into_iter().filter_map(|library| library.compiler()).map(str::to_string));
-        Machine { processor, cores, compilers }
+        Machine { processor, processors, compilers }
     }
 }
 
-/// The name that the processor gives itself, and the number of its cores that this system has.
+/// What the toolchain that proved the library calls itself.
+fn rattle() -> Option<String> {
+    let output = Command::new("rt").arg("version").output().ok()?;
+    Some(String::from_utf8(output.stdout).ok()?.lines().next()?.to_string())
+}
+
+/// The name that the processor gives itself, which may be no more than a family's, with the numbers that tell its kind; and how many the
+/// system has.
 fn processor(cpuinfo: &str) -> (String, usize) {
-    let value =
-        |line: &str, key: &str| Some(line.strip_prefix(key)?.trim_start().strip_prefix(':')?.trim().to_string());
-    let names: Vec<String> = cpuinfo.lines().filter_map(|line| value(line, "model name")).collect();
-    let name = names.first().cloned().unwrap_or_else(|| "unknown processor".into());
-    (name, names.len())
+    let values = |key: &str| -> Vec<String> {
+        let value = |line: &str| Some(line.strip_prefix(key)?.trim_start().strip_prefix(':')?.trim().to_string());
+        cpuinfo.lines().filter_map(value).collect()
+    };
+    let names = values("model name");
+    let mut text = names.first().cloned().unwrap_or_else(|| "unknown processor".into());
+    for (key, word) in [("cpu family", "family"), ("model", "model"), ("stepping", "stepping")] {
+        if let Some(number) = values(key).first() {
+            text += &format!(", {word} {number}");
+        }
+    }
+    (text, names.len())
 }
 
 #[cfg(test)]
@@ -35,9 +51,9 @@ mod tests {
     use super::*;
 
     #[test]
-    fn cores_are_counted() {
-        let text = "processor\t: 0\nmodel name\t: Some CPU @ 2GHz\n\nprocessor\t: 1\nmodel name\t: Some CPU @ 2GHz\n";
-        assert_eq!(processor(text), ("Some CPU @ 2GHz".into(), 2));
+    fn processors_are_counted() {
+        let one = "cpu family\t: 6\nmodel\t\t: 207\nmodel name\t: Some CPU @ 2GHz\nstepping\t: 2\n";
+        assert_eq!(processor(&one.repeat(2)), ("Some CPU @ 2GHz, family 6, model 207, stepping 2".into(), 2));
         assert_eq!(processor(""), ("unknown processor".into(), 0));
     }
 }

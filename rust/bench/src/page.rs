@@ -51,11 +51,11 @@ fn introduction() -> String {
 
 fn where_measured(machine: &Machine, versions: &[(Library, String)]) -> String {
     let mut text = String::from("## Measured on\n\n");
-    let cores = match machine.cores {
-        1 => "1 core".into(),
-        n => format!("{n} cores"),
+    let processors = match machine.processors {
+        1 => "1 processor".into(),
+        n => format!("{n} processors"),
     };
-    line(&mut text, &format!("- {}, {cores}", machine.processor));
+    line(&mut text, &format!("- {}; {processors}", machine.processor));
     let mut compilers = machine.compilers.clone();
     compilers.dedup();
     line(&mut text, &format!("- {}", compilers.join("; ")));
@@ -238,9 +238,9 @@ mod tests {
 
     #[test]
     fn a_library_that_is_missing_is_named_with_its_package() {
-        let machine = Machine { processor: "P".into(), cores: 1, compilers: vec!["c".into(), "c".into()] };
+        let machine = Machine { processor: "P".into(), processors: 1, compilers: vec!["c".into(), "c".into()] };
         let text = page(&machine, &[(Library::Agg, "1.2".into())], &[]);
-        assert!(text.contains("- P, 1 core\n- c\n- FreeType was not found"));
+        assert!(text.contains("- P; 1 processor\n- c\n- FreeType was not found"));
         assert!(text.contains("`libfreetype-dev`") && !text.contains("libagg-dev"));
         assert!(text.contains("- AGG 1.2\n"));
     }

@@ -116,7 +116,12 @@ impl Element for i64 {
     }
 }
 
-/// A copy of a list, to be lent between two margins: what is read or written past its ends shows.
+/// Elements on each side of a buffer, at the least.
+const MARGIN: usize = 24;
+/// There are up to so many more before it, told from what is in it, so that buffers have every alignment.
+const SHIFTS: usize = 16;
+
+/// A copy of a list, to be lent between two margins: a write past its ends shows, and a read that is made use of.
 struct Guarded<T> {
     all: Vec<T>,
     first: usize,
@@ -124,15 +129,10 @@ struct Guarded<T> {
 }
 
 impl<T: Element> Guarded<T> {
-    /// Elements on each side, at the least.
-    const MARGIN: usize = 24;
-    /// There are up to so many more before it, told from what is in it, so that buffers begin at every address that they may have.
-    const SHIFTS: usize = 16;
-
     fn new(list: &[T]) -> Guarded<T> {
         let mixed = list.iter().take(8).fold(list.len(), |sum, element| sum.wrapping_mul(31) ^ element.low_bits());
-        let first = Self::MARGIN + mixed % Self::SHIFTS;
-        let all = [&vec![T::MARK; first], list, &vec![T::MARK; Self::MARGIN]].concat();
+        let first = MARGIN + mixed % SHIFTS;
+        let all = [&vec![T::MARK; first], list, &[T::MARK; MARGIN]].concat();
         Guarded { all, first, length: list.len() }
     }
 
@@ -158,7 +158,7 @@ fn same<T: PartialEq + Debug>(what: &str, found: &T, expected: &T) -> Result<(),
     if found == expected {
         Ok(())
     } else {
-        Err(Difference(format!("{what}: {found:?}, where {expected:?} is right")))
+        Err(Difference(format!("{what}: {found:?}, where the reference has {expected:?}")))
     }
 }
 
@@ -189,9 +189,9 @@ mod tests {
     }
 
     #[test]
-    fn buffers_begin_at_every_address() {
+    fn buffers_have_every_alignment() {
         let begins: std::collections::BTreeSet<usize> = (0..=255u8).map(|byte| Guarded::new(&[byte]).first).collect();
-        assert_eq!(begins.len(), Guarded::<u8>::SHIFTS);
+        assert_eq!(begins.len(), SHIFTS);
     }
 
     #[test]

@@ -1,9 +1,10 @@
 //! Calls that may be refused: sound ones with some part damaged, often two parts, so that the order of the questions matters.
-use crate::outlines::{Outline, MOST_EDGES, SIDES, STEPS};
+use crate::outlines::{Outline, MOST_EDGES, SIDES};
 use crate::random::Random;
+use reference::{Limits, STEPS};
 
 /// Question 9: an entry's limit, either way.
-pub const ENTRY_LIMIT: i64 = 1 << 40;
+pub const ENTRY_LIMIT: i64 = Limits::SPEC.largest_entry;
 
 /// Added to a number, this is lost where only 16 bits are looked at.
 const BEYOND_16_BITS: u32 = 1 << 16;
@@ -44,7 +45,7 @@ pub struct Drawing {
 
 /// What a table may hold before it is built: anything.
 pub fn any_table(random: &mut Random, length: usize) -> Vec<i64> {
-    (0..length).map(|_| random.next() as i64).collect()
+    (0..length).map(|_| random.number() as i64).collect()
 }
 
 /// A table that question 9 lets pass, its entries of any size up to the limit or all at it.

@@ -36,6 +36,10 @@ pub struct Seen {
     /// outlines of level and upright edges and those at 45 degrees alone
     pub octilinear: u64,
     pub edges: u64,
+    /// outlines with no contour
+    pub empty: u64,
+    /// outlines with the most edges, by the depth of their tile
+    pub largest: [u64; SIDES.len()],
     /// cells whose figure and grey were held to exact areas
     pub cells: u64,
     pub greys_one_apart: u64,
@@ -50,6 +54,8 @@ impl Seen {
         self.outlines += other.outlines;
         self.octilinear += other.octilinear;
         self.edges += other.edges;
+        self.empty += other.empty;
+        self.largest.iter_mut().zip(other.largest).for_each(|(mine, more)| *mine += more);
         self.cells += other.cells;
         self.greys_one_apart += other.greys_one_apart;
         self.calls += other.calls;
@@ -112,7 +118,7 @@ impl std::fmt::Display for Seen {
 pub fn case(rules: &dyn Rules, seed: u64, number: u64, seen: &mut Seen) -> Result<(), Difference> {
     let random = &mut Random::of_case(seed, number);
     let side = SIDES[(number % SIDES.len() as u64) as usize];
-    let large = number / SIDES.len() as u64 % LARGE_ONE_IN == 0;
+    let large = (number / SIDES.len() as u64).is_multiple_of(LARGE_ONE_IN);
     let outline = outlines::outline(random, side, large);
     from_outline_to_pictures(rules, random, &outline, seen)?;
     for _ in 0..DAMAGED_CALLS {
@@ -138,6 +144,8 @@ pub fn from_outline_to_pictures(
     seen.outlines += 1;
     seen.octilinear += outline.is_octilinear() as u64;
     seen.edges += edges as u64;
+    seen.empty += counts.is_empty() as u64;
+    seen.largest[outline.depth() as usize] += (edges == outlines::MOST_EDGES) as u64;
     for level in 0..=outline.depth() {
         let (figures, greys) = pictures(rules, random, side, level, &table, seen)?;
         let looked = demand3::near(outline, level, area, &figures, &greys)?;
@@ -206,6 +214,11 @@ fn damaged_drawing(rules: &dyn Rules, random: &mut Random, side: u32, seen: &mut
     Ok(())
 }
 
+/// What was found, a panic being a difference too, so that it is said in which case it came.
+pub fn tried<T>(what: impl FnOnce() -> Result<T, Difference>) -> Result<T, Difference> {
+    catch_unwind(AssertUnwindSafe(what)).unwrap_or_else(|_| Err(Difference("a panic, told above".to_string())))
+}
+
 /// The cases of these numbers, on all processors: what was seen, or the first case that fails, with what is wrong there.
 pub fn run(seed: u64, numbers: std::ops::Range<u64>) -> Result<Seen, (u64, Difference)> {
     let threads = std::thread::available_parallelism().map_or(1, |n| n.get() as u64);
@@ -215,8 +228,7 @@ pub fn run(seed: u64, numbers: std::ops::Range<u64>) -> Result<Seen, (u64, Diffe
         let mut seen = Seen::default();
         let mut number = numbers.start + first;
         while number < end.load(Ordering::Relaxed) {
-            let tried = catch_unwind(AssertUnwindSafe(|| case(&reference::Spec, seed, number, &mut seen)));
-            if let Err(difference) = tried.unwrap_or_else(|_| Err(Difference("a panic, told above".to_string()))) {
+            if let Err(difference) = tried(|| case(&reference::Spec, seed, number, &mut seen)) {
                 end.fetch_min(number, Ordering::Relaxed);
                 return Err((number, difference));
             }

@@ -1,15 +1,13 @@
 //! Accepted outlines of many kinds: long edges and short, edges that touch or cross grid lines, corners and the border, hairlines, outlines
 //! without area, round and round the same points, the same contour twice, no contour at all.
 use crate::random::Random;
+use reference::{Limits, STEPS};
 
 /// 01's sides of a tile.
 pub const SIDES: [u32; 7] = [1, 2, 4, 8, 16, 32, 64];
-/// 01's step is 1/256 pixel.
-pub const STEPS: i64 = 256;
-/// Question 5: the most edges of an outline.
-pub const MOST_EDGES: u32 = 1024;
-/// Question 4: the fewest points of a contour.
-pub const FEWEST_POINTS: u32 = 3;
+/// The most edges of an outline, and the fewest points of a contour.
+pub const MOST_EDGES: u32 = Limits::SPEC.most_edges;
+const FEWEST_POINTS: u32 = Limits::SPEC.least_count;
 
 #[derive(Clone, Debug, PartialEq)]
 pub struct Outline {
@@ -159,6 +157,15 @@ fn on_grid_lines(random: &mut Random, limit: i64, count: usize) -> Vec<Point> {
     (0..count).map(|_| (on_line(random), on_line(random))).collect()
 }
 
+/// How often a step can be taken from a coordinate before it leaves the tile; of no step at all, as often as the tile is wide.
+fn room(limit: i64, at: i64, step: i64) -> i64 {
+    match step.signum() {
+        1 => (limit - at) / step,
+        -1 => at / -step,
+        _ => limit,
+    }
+}
+
 /// Edges of any slope that go through a point where cells meet, or the middle of one.
 fn through_grid_points(random: &mut Random, limit: i64, count: usize) -> Vec<Point> {
     let spacing = (limit >> random.index(8)).max(1);
@@ -166,17 +173,7 @@ fn through_grid_points(random: &mut Random, limit: i64, count: usize) -> Vec<Poi
     while points.len() < count {
         let (x, y) = (spacing * random.within(0, limit / spacing), spacing * random.within(0, limit / spacing));
         let (u, v) = (random.within(-20, 20), random.within(-20, 20));
-        // as far on either side of it as the tile goes, or less
-        let room = |at: i64, step: i64| {
-            if step > 0 {
-                (limit - at) / step
-            } else if step < 0 {
-                at / -step
-            } else {
-                limit
-            }
-        };
-        let most = |u: i64, v: i64| room(x, u).min(room(y, v));
+        let most = |u: i64, v: i64| room(limit, x, u).min(room(limit, y, v));
         let (there, back) = (random.within(0, most(u, v)), random.within(0, most(-u, -v)));
         points.push((x + u * there, y + v * there));
         points.push((x - u * back, y - v * back));
@@ -191,19 +188,9 @@ fn octilinear(random: &mut Random, limit: i64, count: usize) -> Vec<Point> {
     let mut points = vec![start];
     while points.len() < count {
         let (x, y) = points[points.len() - 1];
-        let (sx, sy) = (random.within(-1, 1), random.within(-1, 1));
-        // as far as the border at the most
-        let room = |at: i64, sign: i64| {
-            if sign > 0 {
-                limit - at
-            } else if sign < 0 {
-                at
-            } else {
-                limit
-            }
-        };
-        let far = random.within(0, room(x, sx).min(room(y, sy)));
-        points.push((x + sx * far, y + sy * far));
+        let (u, v) = (random.within(-1, 1), random.within(-1, 1));
+        let far = random.within(0, room(limit, x, u).min(room(limit, y, v)));
+        points.push((x + u * far, y + v * far));
     }
     // the last edge closes the contour: its point is put level with the one before it, and under the first
     let before = points[count - 2];
@@ -270,16 +257,28 @@ fn about_a_corner(random: &mut Random, limit: i64, count: usize) -> Vec<Point> {
     (0..count).map(|_| (x + random.within(-reach, reach), y + random.within(-reach, reach))).collect()
 }
 
-/// A polygon about a middle, clockwise as a letter or anticlockwise as a hole.
+/// A polygon about a middle, clockwise as a letter or anticlockwise as a hole. Its points are on a circle, in whole numbers: in each quarter
+/// the parameter t goes from 0 to 1, and (1 − t², 2t) / (1 + t²) is on the circle of radius 1.
 fn ring(random: &mut Random, limit: i64, count: usize) -> Vec<Point> {
     let (x, y, radius) = (random.within(0, limit), random.within(0, limit), random.within(1, limit));
-    let turn = random.pick(&[1.0, -1.0]) * std::f64::consts::TAU / count as f64;
-    (0..count)
+    let count = count as i64;
+    let mut points: Vec<Point> = (0..count)
         .map(|i| {
-            let (sin, cos) = (turn * i as f64).sin_cos();
-            (x + (radius as f64 * cos) as i64, y + (radius as f64 * sin) as i64)
+            let (quarter, k) = (4 * i / count, 4 * i % count); // t is k over count
+            let (near, far) = (radius * (count * count - k * k), radius * 2 * k * count);
+            let (near, far) = (near / (count * count + k * k), far / (count * count + k * k));
+            match quarter {
+                0 => (x + near, y + far),
+                1 => (x - far, y + near),
+                2 => (x - near, y - far),
+                _ => (x + far, y - near),
+            }
         })
-        .collect()
+        .collect();
+    if random.once_in(2) {
+        points.reverse();
+    }
+    points
 }
 
 /// Along one line again and again: edges, but no area.
@@ -297,6 +296,24 @@ fn back_and_forth(random: &mut Random, limit: i64, count: usize) -> Vec<Point> {
 #[cfg(test)]
 mod tests {
     use super::*;
+
+    #[test]
+    fn rings_go_round() {
+        // Twice the area of a circle is 2π times the square of its radius; a polygon in it has somewhat less.
+        let mut random = Random::new(3);
+        let mut turns = [0, 0];
+        for _ in 0..40 {
+            let points: Vec<i64> = ring(&mut random, 4096, 64).iter().flat_map(|&(x, y)| [x, y]).collect();
+            let radius = (points.iter().step_by(2).max().unwrap() - points.iter().step_by(2).min().unwrap()) / 2;
+            let area = reference::signed_area(&points, &[64]);
+            assert!(
+                (6 * radius * radius..7 * radius * radius + 8 * radius).contains(&area.abs()),
+                "{area}, radius {radius}"
+            );
+            turns[(area < 0) as usize] += 1;
+        }
+        assert!(turns[0] > 5 && turns[1] > 5);
+    }
 
     #[test]
     fn outlines_are_accepted_ones() {

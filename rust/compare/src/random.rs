@@ -12,10 +12,11 @@ impl Random {
     /// The generator of one case of a run: cases may be tried in any order, on any thread, and each alone.
     pub fn of_case(seed: u64, number: u64) -> Random {
         let mut first = Random::new(seed);
-        Random::new(first.next() ^ Random::new(number).next())
+        Random::new(first.number() ^ Random::new(number).number())
     }
 
-    pub fn next(&mut self) -> u64 {
+    /// Any number of 64 bits.
+    pub fn number(&mut self) -> u64 {
         self.state = self.state.wrapping_add(0x9e37_79b9_7f4a_7c15);
         let mut z = self.state;
         z = (z ^ (z >> 30)).wrapping_mul(0xbf58_476d_1ce4_e5b9);
@@ -26,20 +27,20 @@ impl Random {
     /// From `low` to `high`, both ends possible.
     pub fn within(&mut self, low: i64, high: i64) -> i64 {
         let span = (high - low) as u64 + 1;
-        low + (self.next() % span) as i64
+        low + (self.number() % span) as i64
     }
 
     /// Once in `n` times.
     pub fn once_in(&mut self, n: u64) -> bool {
-        self.next() % n == 0
+        self.number().is_multiple_of(n)
     }
 
     pub fn pick<T: Copy>(&mut self, from: &[T]) -> T {
-        from[(self.next() % from.len() as u64) as usize]
+        from[self.index(from.len())]
     }
 
     pub fn index(&mut self, length: usize) -> usize {
-        (self.next() % length as u64) as usize
+        (self.number() % length as u64) as usize
     }
 
     pub fn pick_mut<'a, T>(&mut self, one: &'a mut T, other: &'a mut T) -> &'a mut T {

@@ -1,4 +1,4 @@
-//! Tens of thousands of cases, always the same ones.
+//! Tens of thousands of cases, always the same ones: all is made in whole numbers from the seed.
 
 /// Any seed will do; it is fixed so that a failure can be seen again.
 const SEED: u64 = 1;
@@ -10,8 +10,9 @@ fn library_and_reference_agree() {
     let seen = compare::run(SEED, 0..CASES)
         .unwrap_or_else(|(number, difference)| panic!("seed {SEED}, case {number}: {difference}"));
     println!("differential: {seen}");
-    // The run did what it says: every number was answered many times, and there were outlines of each kind.
+    // The run did what it says: every number was answered many times, and there were the outlines that matter most.
     assert_eq!(seen.outlines, CASES);
     assert!(seen.answered.iter().all(|&times| times > 500), "numbers answered: {:?}", seen.answered);
-    assert!(seen.octilinear > CASES / 20);
+    assert!(seen.octilinear > CASES / 20 && seen.empty > CASES / 400);
+    assert!(seen.largest.iter().all(|&outlines| outlines > 10), "with the most edges: {:?}", seen.largest);
 }

@@ -45,8 +45,8 @@ fn figures_past_the_bound_are_caught() {
     for (moved, near) in [(3, true), (4, false), (-5, true), (-6, false)] {
         let mut figures = figures;
         figures[0] += moved;
-        figures[3] -= moved.min(4).max(-4);
-        figures[2] -= moved - moved.min(4).max(-4);
+        figures[3] -= moved.clamp(-4, 4);
+        figures[2] -= moved - moved.clamp(-4, 4);
         assert_eq!(demand3::near(&outline, 1, area, &figures, &greys).is_ok(), near, "moved by {moved}");
     }
 }

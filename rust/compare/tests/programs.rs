@@ -61,13 +61,13 @@ fn wrong_answers_are_told() {
     let right = fs::read_to_string(&answers[1]).unwrap();
     let (first, rows) = right.split_once('\n').unwrap();
     let grey = u8::from_str_radix(&rows[..2], 16).unwrap();
-    for (moved, status) in [(1, 0), (2, 2)] {
-        // towards 0, so that it stays a grey
+    // another grey than the library's, though one apart is within what is promised; towards 0, so that it stays a grey
+    for moved in [1, 2] {
         fs::write(&answers[1], format!("{first}\n{:02x}{}", grey - moved, &rows[2..])).unwrap();
         let output = exact(&folder, &answers);
         let page = text(&output.stdout);
-        assert_eq!(output.status.code(), Some(status), "moved by {moved}:\n{page}");
-        assert_eq!(page.contains("NOT AS PROMISED"), status != 0);
+        assert_eq!(output.status.code(), Some(3), "moved by {moved}:\n{page}");
+        assert!(page.contains("NOT AS PROMISED"));
     }
     let other_edges = right.replacen("00", "01", 1);
     for wrong in [&other_edges, "refused 06\n", first, ""] {

@@ -1,10 +1,10 @@
 //! What random cases meet too seldom: each place of each list, each step of the greys, values next to a half, the largest entries.
 use compare::calls::{build, cell, figures, greys};
 use compare::damage::ENTRY_LIMIT;
-use compare::outlines::{Outline, MOST_EDGES, SIDES, STEPS};
+use compare::outlines::{Outline, MOST_EDGES, SIDES};
 use compare::random::Random;
 use compare::{from_outline_to_pictures, Seen};
-use reference::{Spec, PIXEL};
+use reference::{Spec, PIXEL, STEPS};
 
 #[test]
 fn every_entry_is_asked_for() {
@@ -99,4 +99,36 @@ fn largest_entries() {
         }
     }
     assert_eq!((seen.outlines, seen.octilinear), (6, 6));
+}
+
+/// Outlines whose worst miss is nearly its bound, found by search, with that miss as a share of the bound, in ten thousandths. docs/ARCHITECTURE.md
+/// has them.
+const NEAR_THE_BOUND: [(u32, &[i64], u32); 4] = [
+    (2, &[271, 242, 251, 243, 245, 267], 6667),
+    (4, &[532, 470, 276, 618, 683, 274, 359, 639], 9237),
+    (8, &[1044, 982, 788, 1130, 1195, 786, 871, 1151], 9750),
+    (64, &[8193, 8160, 8126, 8217, 8179, 8167], 9992),
+];
+
+#[test]
+fn misses_near_the_bound() {
+    for (side, points, share) in NEAR_THE_BOUND {
+        let outline = Outline { side, points: points.to_vec(), counts: vec![points.len() as u32 / 2] };
+        let mut seen = Seen::default();
+        from_outline_to_pictures(&Spec, &mut Random::new(1), &outline, &mut seen).unwrap();
+        let worst = seen.worst.unwrap();
+        assert_eq!(((worst.ratio * 10_000.0).round() as u32, worst.level), (share, outline.depth()));
+    }
+}
+
+#[test]
+fn a_grey_that_is_one_apart() {
+    // 256 times round a small outline: 0.9950 of a grey between what is drawn and what is exact, from the same page.
+    let round = [8015, 8348, 8277, 8018, 8003, 8429, 8197, 8075];
+    let outline = Outline { side: 64, points: round.repeat(256), counts: vec![MOST_EDGES] };
+    let (_, table) = build(&Spec, 64, &outline.points, &outline.counts, &[7; 4096]).unwrap().unwrap();
+    let drawn = greys(&Spec, 64, 6, &table, &[7; 4096]).unwrap().unwrap();
+    let exact = reference::exact_areas(64, &outline.points, &outline.counts, 6);
+    let cell = 31 * 64 + 31;
+    assert_eq!((drawn[cell], exact[cell].grey(64, 6)), (248, 249));
 }

@@ -77,7 +77,7 @@ fn answer<T: Default + PartialEq>(number: u32, written: T) -> Result<T, u8> {
     if number == 0 {
         return Ok(written);
     }
-    // Both are proved; this holds the declarations above to the library.
+    // Proved; a declaration above that is wrong would show here.
     assert!(written == T::default(), "a refusal carries 0");
     Err(u8::try_from(number).expect("the questions are numbered from 1 to 10"))
 }
@@ -85,8 +85,10 @@ fn answer<T: Default + PartialEq>(number: u32, written: T) -> Result<T, u8> {
 /// Builds the table of an outline: `points` has x and y of each point in turn, in steps, and `counts` how many points each contour has. The
 /// answer is the number of edges. What the table held before makes no difference.
 pub fn build(side: u32, points: &[i64], counts: &[u32], table: &mut [i64]) -> Result<u32, u8> {
-    let mut edges = u32::MAX; // which no call leaves
-                              // SAFETY: slices of Rust are aligned, of their lengths, and those that are written overlap no other.
+    // no edge count, so that a call that did not write one would show
+    let mut edges = u32::MAX;
+
+    // SAFETY: slices of Rust are aligned, of their lengths, and those that are written overlap no other.
     let number = unsafe {
         c::mattuliyan_build(
             side,
@@ -120,8 +122,10 @@ pub fn greys(side: u32, level: u32, table: &[i64], picture: &mut [u8]) -> Result
 
 /// The figure of one cell, column `cx` and row `cy` of the level: the one that [`figures`] puts there.
 pub fn cell(side: u32, level: u32, cx: u32, cy: u32, table: &[i64]) -> Result<i64, u8> {
-    let mut figure = i64::MAX; // which no call leaves
-                               // SAFETY: as in `build`.
+    // no figure of a table that is drawn
+    let mut figure = i64::MAX;
+
+    // SAFETY: as in `build`.
     let number = unsafe { c::mattuliyan_cell(side, level, cx, cy, table.as_ptr(), table.len(), &mut figure) };
     answer(number, figure)
 }

@@ -18,7 +18,7 @@ fn run(command: &mut Command) -> String {
     String::from_utf8(output.stdout).unwrap()
 }
 
-/// The text without comments, line breaks and repeated blanks, so that two ways of laying it out compare equal.
+/// The text in one line and without repeated blanks, so that two ways of laying it out compare equal.
 fn in_one_line(text: &str) -> String {
     text.split_whitespace().collect::<Vec<_>>().join(" ").replace("( ", "(").replace(", )", ")").replace(" )", ")")
 }

@@ -2,9 +2,8 @@
 
 use crate::big::Big;
 use crate::edge::Fraction;
-use crate::PIXEL;
+use crate::{FULL_GREY, PIXEL};
 use std::cmp::Ordering;
-use std::fmt;
 use std::iter::Sum;
 
 /// An exact number: a whole number and proper fractions of different
@@ -144,9 +143,9 @@ impl Exact {
     pub fn grey(&self, side: u32, level: u32) -> u8 {
         let full = i128::from(PIXEL) * i128::from(side) * i128::from(side);
         // floor(x / full + 1/2) = floor(floor(2x + full) / (2 full)).
-        let twice = self.times(2 * 255 * power(level));
+        let twice = self.times(2 * i128::from(FULL_GREY) * power(level));
         let nearest = (twice.floor() + full).div_euclid(2 * full);
-        nearest.clamp(0, 255) as u8
+        nearest.clamp(0, FULL_GREY.into()) as u8
     }
 
     /// The floor, and whether it is the number itself.
@@ -230,26 +229,14 @@ impl<'a> Sum<&'a Exact> for Exact {
     }
 }
 
-impl fmt::Display for Exact {
-    /// To six places, or as many as asked for.
-    fn fmt(&self, out: &mut fmt::Formatter<'_>) -> fmt::Result {
-        let places = out.precision().unwrap_or(6).min(18);
-        out.write_str(&self.decimal(places as u32))
-    }
-}
-
 /// How far a figure is from 4^level times the exact area, exactly.
 #[derive(Clone, Debug, PartialEq, Eq)]
 pub struct Miss {
+    /// Never below 0.
     value: Exact,
 }
 
 impl Miss {
-    /// The miss as a number, never below 0.
-    pub fn value(&self) -> &Exact {
-        &self.value
-    }
-
     /// Whether the figure is exact.
     pub fn is_zero(&self) -> bool {
         self.value.cmp_whole(0) == Ordering::Equal
@@ -337,7 +324,7 @@ mod tests {
         assert_eq!(of(&[(-1, 200)]).decimal(2), "-0.01");
         assert_eq!(of(&[(-1, 201)]).decimal(2), "0.00");
         assert_eq!(of(&[(1, 3)]).decimal(18), "0.333333333333333333");
-        assert_eq!(format!("{} {:.1}", of(&[(5, 4)]), of(&[(5, 4)])), "1.250000 1.3");
+        assert_eq!(of(&[(5, 4)]).decimal(1), "1.3");
         assert_eq!(of(&[(-5, 4)]).to_f64(), -1.25);
     }
 
@@ -417,8 +404,8 @@ mod tests {
         // 4 × 1/3 + 4 × 1/6 = 2.
         let area = of(&[(1, 3), (1, 6)]);
         assert!(area.miss(2, 1).is_zero() && !area.miss(3, 1).is_zero());
-        assert_eq!(area.miss(5, 1).value(), &Exact::from_whole(3));
-        assert_eq!(area.miss(-1, 1).value(), &Exact::from_whole(3));
+        assert_eq!(area.miss(5, 1).value, Exact::from_whole(3));
+        assert_eq!(area.miss(-1, 1).value, Exact::from_whole(3));
         // The bound of level 1 with 3 edges is 4 1/2.
         let area = of(&[(3, 8)]);
         assert!(area.miss(6, 1).within(1, 3) && area.miss(-3, 1).within(1, 3));

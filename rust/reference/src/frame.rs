@@ -1,6 +1,7 @@
 //! The tile program: its input, and what it prints.
 
 use crate::picture::greys;
+use crate::questions::depth;
 use crate::rules::Rules;
 use crate::table::build;
 
@@ -86,7 +87,7 @@ fn printed(rules: &dyn Rules, text: &[u8]) -> Result<String, u8> {
     let used = (frame.side as usize).pow(2).min(LARGEST_TABLE);
     let (edges, table) = build(rules, frame.side, &frame.points, &frame.counts, &noughts[..used])?;
     // A level above the depth is refused for itself, whatever the places.
-    let places = 1 << (2 * frame.level.min(6));
+    let places = 1 << (2 * frame.level.min(depth(frame.side)));
     let greys = greys(rules, frame.side, frame.level, &table, places)?;
     let mut text = format!("{edges:04x}{:016x}\n", table[0]);
     for row in greys.chunks(1 << frame.level) {

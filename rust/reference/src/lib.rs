@@ -86,7 +86,10 @@ pub use table::build;
 
 /// A full pixel's area: the unit is half a square step and a pixel is 256
 /// steps each way, so 2 × 256 × 256.
-pub const PIXEL: i64 = 131_072;
+pub const PIXEL: i64 = 2 * STEPS * STEPS;
 
 /// "A step is 1/256 pixel."
 pub const STEPS: i64 = 256;
+
+/// The grey of full ink; 0 is bare paper.
+pub const FULL_GREY: u8 = 255;

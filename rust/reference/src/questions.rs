@@ -33,6 +33,8 @@ pub enum Question {
 /// The limits that the questions compare with.
 #[derive(Clone, Copy, Debug, PartialEq, Eq)]
 pub struct Limits {
+    /// The greatest side of a tile.
+    pub greatest_side: u32,
     /// The fewest points of a contour.
     pub least_count: u32,
     /// The most points of a contour.
@@ -45,7 +47,8 @@ pub struct Limits {
 
 impl Limits {
     /// 01's limits.
-    pub const SPEC: Limits = Limits { least_count: 3, most_count: 1024, most_edges: 1024, largest_entry: 1 << 40 };
+    pub const SPEC: Limits =
+        Limits { greatest_side: 64, least_count: 3, most_count: 1024, most_edges: 1024, largest_entry: 1 << 40 };
 }
 
 /// What a call was given. What a call does not take stays empty, and no
@@ -72,7 +75,7 @@ impl Given<'_> {
 
     fn yes(&self, question: Question, limits: Limits) -> bool {
         match question {
-            Question::Side => self.side <= 64 && self.side.count_ones() == 1,
+            Question::Side => self.side <= limits.greatest_side && self.side.count_ones() == 1,
             Question::TableLength => self.table.len() as u128 == u128::from(self.side) * u128::from(self.side),
             Question::PointsLength => self.points.len() as u128 == 2 * sum(self.counts),
             Question::EachCount => {

@@ -2,7 +2,7 @@
 
 use crate::edge::{Fraction, Profile};
 use crate::questions::{Limits, Question};
-use crate::PIXEL;
+use crate::{FULL_GREY, PIXEL};
 
 /// The rules of 01 that are easily got wrong. Each default body is 01's rule;
 /// a wrong variant overrides one of them.
@@ -69,8 +69,8 @@ pub trait Rules {
     /// whole number, halves up, then held between 0 and 255."
     fn grey(&self, figure: i64, side: u32) -> u8 {
         let full = i128::from(PIXEL) * i128::from(side) * i128::from(side);
-        let nearest = (2 * 255 * i128::from(figure) + full).div_euclid(2 * full);
-        nearest.clamp(0, 255) as u8
+        let nearest = (2 * i128::from(FULL_GREY) * i128::from(figure) + full).div_euclid(2 * full);
+        nearest.clamp(0, FULL_GREY.into()) as u8
     }
 }
 

@@ -5,7 +5,7 @@ use crate::edge::{Bend, Fraction, Profile};
 use crate::exact::Exact;
 use crate::questions::{Limits, Question};
 use crate::rules::Rules;
-use crate::PIXEL;
+use crate::{FULL_GREY, PIXEL};
 
 /// All variants, each with a short name.
 pub fn all() -> Vec<(&'static str, Box<dyn Rules>)> {
@@ -140,7 +140,7 @@ pub struct GreyHalvesDown;
 impl Rules for GreyHalvesDown {
     fn grey(&self, figure: i64, side: u32) -> u8 {
         let full = i128::from(PIXEL) * i128::from(side) * i128::from(side);
-        let nearest = -(full - 2 * 255 * i128::from(figure)).div_euclid(2 * full);
-        nearest.clamp(0, 255) as u8
+        let nearest = -(full - 2 * i128::from(FULL_GREY) * i128::from(figure)).div_euclid(2 * full);
+        nearest.clamp(0, FULL_GREY.into()) as u8
     }
 }

@@ -1,16 +1,24 @@
 //! A page that sets what the tile program draws of a frame beside the exact areas, cell by cell. `draw --exact` calls it.
 //!
-//! The greys are the tile program's own answers, one for each level. The areas are those of the library that the program is made of. The
-//! exact areas are the reference's, in exact fractions, and every comparison is made with these; decimals are for the page alone.
+//! The greys are the tile program's own answers, one for each level. It prints no areas: these are the library's, which is the same code, and
+//! whose greys must be the program's. The exact areas are the reference's, in exact fractions, and every comparison is made with these;
+//! decimals are for the page alone.
+use compare::calls::Difference;
 use compare::outlines::Outline;
 use compare::{demand3, grouped};
-use reference::Exact;
+use reference::{Exact, Fraction};
+use std::ffi::{OsStr, OsString};
 use std::fmt::Write as _;
-use std::io::Write as _;
+use std::io::{ErrorKind, Write as _};
 use std::process::ExitCode;
 
 const USAGE: &str = "usage: exact NAME FRAME ANSWER...
 NAME is what the page calls the frame; FRAME is its text; the ANSWERs are what the tile program answers to it at level 0, 1 and so on to the depth";
+
+/// Exit status where something on the page is not as promised.
+const NOT_AS_PROMISED: u8 = 3;
+/// Exit status of a program whose output nobody reads any more, as of one that ends by the signal.
+const BROKEN_PIPE: u8 = 128 + 13;
 
 /// Decimal places of areas and misses on the page.
 const PLACES: u32 = 3;
@@ -20,7 +28,10 @@ struct Level {
     level: u32,
     /// 4^level times the drawn areas
     figures: Vec<i64>,
+    /// as the tile program printed them
     greys: Vec<u8>,
+    /// as the library draws them
+    library_greys: Vec<u8>,
     exact: Vec<Exact>,
 }
 
@@ -42,32 +53,31 @@ impl Level {
     }
 }
 
-fn fraction(numerator: i128, denominator: i128) -> Exact {
-    let mut number = Exact::default();
-    number.add_fraction(numerator, denominator);
-    number
+fn fraction(num: i128, den: i128) -> Exact {
+    Exact::from(Fraction { num, den })
 }
 
 fn main() -> ExitCode {
-    let words: Vec<String> = std::env::args().skip(1).collect();
+    let words: Vec<OsString> = std::env::args_os().skip(1).collect();
     let [name, frame, answers @ ..] = &words[..] else {
         eprintln!("{USAGE}");
         return ExitCode::from(2);
     };
-    match page(name, frame, answers) {
+    let problem = match page(&name.to_string_lossy(), frame, answers) {
+        Err(problem) => problem,
         Ok((page, holds)) => match std::io::stdout().write_all(page.as_bytes()) {
-            Ok(()) if holds => ExitCode::SUCCESS,
-            _ => ExitCode::from(2),
+            Ok(()) if holds => return ExitCode::SUCCESS,
+            Ok(()) => return ExitCode::from(NOT_AS_PROMISED),
+            Err(error) if error.kind() == ErrorKind::BrokenPipe => return ExitCode::from(BROKEN_PIPE),
+            Err(error) => format!("the page cannot be written: {error}"),
         },
-        Err(problem) => {
-            eprintln!("exact: {problem}");
-            ExitCode::from(2)
-        }
-    }
+    };
+    eprintln!("exact: {problem}");
+    ExitCode::from(2)
 }
 
-fn page(name: &str, frame: &str, answers: &[String]) -> Result<(String, bool), String> {
-    let read = |path: &str| std::fs::read(path).map_err(|error| format!("{path}: {error}"));
+fn page(name: &str, frame: &OsStr, answers: &[OsString]) -> Result<(String, bool), String> {
+    let read = |path: &OsStr| std::fs::read(path).map_err(|error| format!("{}: {error}", path.display()));
     let frame = reference::frame(&read(frame)?).map_err(|number| format!("{name}: refused {number:02}"))?;
     let outline = Outline { side: frame.side, points: frame.points, counts: frame.counts };
     let mut table = vec![0; (frame.side as usize).pow(2)];
@@ -75,7 +85,7 @@ fn page(name: &str, frame: &str, answers: &[String]) -> Result<(String, bool), S
         .map_err(|number| format!("{name}: refused {number:02}"))?;
     let mut levels = Vec::new();
     for (level, path) in (0..=outline.depth()).zip(answers) {
-        let answer = String::from_utf8(read(path)?).map_err(|error| format!("{path}: {error}"))?;
+        let answer = String::from_utf8(read(path)?).map_err(|error| format!("{}: {error}", path.display()))?;
         levels.push(
             drawn(&outline, level, &table, &answer).map_err(|problem| format!("{name}, level {level}: {problem}"))?,
         );
@@ -94,8 +104,10 @@ fn page(name: &str, frame: &str, answers: &[String]) -> Result<(String, bool), S
 fn drawn(outline: &Outline, level: u32, table: &[i64], answer: &str) -> Result<Level, String> {
     let places = 1 << (2 * level);
     let mut figures = vec![0; places];
+    let mut library_greys = vec![0; places];
     mattuliyan::figures(outline.side, level, table, &mut figures)
-        .map_err(|number| format!("figures refused: {number}"))?;
+        .and_then(|()| mattuliyan::greys(outline.side, level, table, &mut library_greys))
+        .map_err(|number| format!("refused {number:02}"))?;
     let mut lines = answer.lines();
     let first = format!("{:04x}{:016x}", outline.edges(), table[0]);
     if lines.next() != Some(&first) {
@@ -109,42 +121,50 @@ fn drawn(outline: &Outline, level: u32, table: &[i64], answer: &str) -> Result<L
         return Err(format!("the program's answer has {} greys, not {places}", greys.len()));
     }
     let exact = reference::exact_areas(outline.side, &outline.points, &outline.counts, level);
-    Ok(Level { level, figures, greys, exact })
+    Ok(Level { level, figures, greys, library_greys, exact })
 }
 
 fn heading(name: &str, outline: &Outline, area: i64) -> String {
-    let (side, edges) = (outline.side, outline.edges());
+    let (side, edges) = (outline.side, grouped(outline.edges().into()));
+    let (sign, area) = (if area < 0 { "-" } else { "" }, grouped(area.unsigned_abs()));
     format!(
         "{name}: the drawn letter beside the exact ink
-A tile of {side} x {side} pixels; an outline of {edges} edges; a signed area of {} units, 131,072 a pixel.
+A tile of {side} x {side} pixels; an outline of {edges} edges; a signed area of {sign}{area} units, 131,072 a pixel.
 
-The drawn areas and greys are those of the proved program. The exact ones were worked out from the outline by another
-program, another way, in exact fractions; decimals below are rounded to the nearest, comparisons are not. A miss is
-how far a drawn area is from the exact one. It is proved never to pass its bound, which is half a unit for each edge,
-less at coarse levels: ratio 1 would be the bound itself. A grey may be one from the exact area's, never two.
+The greys are what the tile program printed. It prints no areas; these are from the proved library, which is the same
+code. The exact areas and greys were worked out from the outline by another program, another way, in exact fractions;
+decimals are rounded for the page, what is compared is not. A miss is how far a drawn area is from the exact one. It
+is proved never to pass its bound, which is just under half a unit for each edge, less at coarse levels and 0 at
+level 0: ratio 1 would be the bound itself. A grey may be one from the exact area's, never two.
 
-",
-        format!("{}{}", if area < 0 { "-" } else { "" }, grouped(area.unsigned_abs())),
+"
     )
 }
 
 /// Does demand 3 hold of every level? The worst of each, on a line, and the verdict.
 fn summary(outline: &Outline, area: i64, levels: &[Level]) -> (String, bool) {
-    let mut text = String::from("level   cells   greatest miss       bound    ratio   greys one apart\n");
+    let mut text =
+        String::from("level   cells   greatest miss       bound    ratio   in column  row   greys one apart\n");
     let mut wrong = None;
     for level in levels {
+        if level.greys != level.library_greys {
+            wrong =
+                wrong.or(Some(Difference(format!("level {}: the program's greys are not the library's", level.level))));
+        }
         match demand3::near(outline, level.level, area, &level.figures, &level.greys) {
             Err(difference) => wrong = wrong.or(Some(difference)),
             Ok(looked) => {
                 let worst = looked.worst.expect("a level has a cell");
                 writeln!(
                     text,
-                    "{:>5} {:>7} {:>15} {:>11} {:>8.4} {:>17}",
+                    "{:>5} {:>7} {:>15} {:>11} {:>8.4} {:>11} {:>4} {:>17}",
                     level.level,
                     grouped(looked.cells),
                     level.missed_area((worst.cy << level.level) + worst.cx).decimal(PLACES),
                     level.bound(outline.edges()).decimal(PLACES),
                     worst.ratio,
+                    worst.cx,
+                    worst.cy,
                     looked.greys_one_apart,
                 )
                 .unwrap();

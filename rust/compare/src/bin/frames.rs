@@ -92,6 +92,8 @@ fn answer(program: &str, text: &[u8]) -> std::io::Result<Vec<u8>> {
         _ => (), // the pipe is closed here, which ends the text
     }
     running.stdout.take().unwrap().read_to_end(&mut printed)?;
-    running.wait()?;
-    Ok(printed)
+    match running.wait()? {
+        status if status.success() => Ok(printed),
+        status => Err(std::io::Error::other(format!("ended with {status}"))),
+    }
 }

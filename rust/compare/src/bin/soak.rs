@@ -1,7 +1,7 @@
 //! Compares library and reference for as long as one likes, and looks for outlines whose figures miss the exact area by the most.
 use compare::random::Random;
-use compare::{from_outline_to_pictures, grouped, run, Seen};
-use reference::Spec;
+use compare::{from_outline_to_pictures, run, tried, Seen};
+use reference::{Spec, STEPS};
 use std::process::ExitCode;
 use std::time::Instant;
 
@@ -9,8 +9,8 @@ const USAGE: &str = "usage: soak [--seed N] [--case N] [--seconds N]
 
 Runs case after case of a seed, 1 if left out, and says every few seconds how far it is and what was the worst miss of a
 figure so far, as a ratio of its bound. Each time, the worst of the latest outlines is changed a little, over and over, in
-search of a worse one. It ends at the first difference between library and reference, with status 1, or once the
-seconds have passed; else it goes on until it is stopped. With --case, only that case is tried.";
+search of a worse one. It ends at the first difference between library and reference, with status 1, or after the
+round in which the seconds have passed; else it goes on until it is stopped. With --case, only that case is tried.";
 
 /// Cases between two lines of progress: some seconds' worth.
 const ROUND: u64 = 4_000;
@@ -39,6 +39,10 @@ fn options() -> Option<Options> {
 }
 
 fn main() -> ExitCode {
+    if std::env::args().skip(1).eq(["--help"]) {
+        println!("{USAGE}");
+        return ExitCode::SUCCESS;
+    }
     let Some(options) = options() else {
         eprintln!("{USAGE}");
         return ExitCode::from(2);
@@ -56,7 +60,7 @@ fn main() -> ExitCode {
             }
         }
         next += if options.case.is_some() { 1 } else { ROUND };
-        println!("{} s, next is case {}: {seen}", begun.elapsed().as_secs(), grouped(next));
+        println!("{} s, up to case {}: {seen}", begun.elapsed().as_secs(), next - 1);
         if let Some(worst) = seen.worst.as_ref().filter(|worst| Some(worst.ratio) != before) {
             // so that it can be looked at with `draw --exact`
             print!("{}", worst.outline.frame(worst.level));
@@ -83,13 +87,13 @@ fn look_for_worse(random: &mut Random, seen: &mut Seen) -> Result<(), String> {
     for _ in 0..CHANGES {
         let Some(worst) = seen.worst.as_ref().filter(|worst| worst.ratio > 0.0) else { return Ok(()) };
         let mut outline = worst.outline.clone();
-        let limit = compare::outlines::STEPS * outline.side as i64;
+        let limit = STEPS * outline.side as i64;
         for _ in 0..random.within(1, 4) {
             let at = random.index(outline.points.len());
             let reach = random.pick(&[1, 2, 8, 64, limit]);
             outline.points[at] = (outline.points[at] + random.within(-reach, reach)).clamp(0, limit);
         }
-        from_outline_to_pictures(&Spec, random, &outline, seen)
+        tried(|| from_outline_to_pictures(&Spec, random, &outline, seen))
             .map_err(|difference| format!("{difference}\n{}", outline.frame(outline.depth())))?;
     }
     Ok(())

@@ -1,5 +1,5 @@
 //! Pseudo-random outlines for the tests, the same at each run.
-#![allow(dead_code)]
+#![allow(dead_code)] // each test file uses a part of this
 
 /// An outline that building accepts.
 #[derive(Clone, Debug)]
