@@ -20,9 +20,9 @@
  *    9  Is every entry of the table from -2^40 to 2^40?
  *   10  Are both cell numbers below 2^level?
  *
- * Numbers may be any. What the caller owes, since no function can ask it: a pointer is not NULL, is aligned for what it points to, and as
- * many elements as its length says are there; what is written overlaps nothing else that is passed; and nobody else writes any of it
- * meanwhile. The calls keep no state and take no memory, so they may run on several threads at once. */
+ * Numbers may be any. What the caller owes, since no function can ask it: a pointer is not NULL, even where its length is 0, is aligned for
+ * what it points to, and as many elements as its length says are there; what is written overlaps nothing else that is passed; and nobody
+ * else writes any of it meanwhile. The calls keep no state and allocate nothing, so they may run on several threads at once. */
 #ifndef MATTULIYAN_H
 #define MATTULIYAN_H
 

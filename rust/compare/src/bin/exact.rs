@@ -134,8 +134,8 @@ A tile of {side} x {side} pixels; an outline of {edges} edges; a signed area of 
 The greys are what the tile program printed. It prints no areas; these are from the proved library, which is the same
 code. The exact areas and greys were worked out from the outline by another program, another way, in exact fractions;
 decimals are rounded for the page, what is compared is not. A miss is how far a drawn area is from the exact one. It
-is proved never to pass its bound, which is just under half a unit for each edge, less at coarse levels and 0 at
-level 0: ratio 1 would be the bound itself. A grey may be one from the exact area's, never two.
+is proved never to pass its bound, which is just under half a unit for each edge, less at coarse levels and none at
+the coarsest: ratio 1 would be the bound itself. A grey may be one from the exact area's, never two.
 
 "
     )
