@@ -246,6 +246,7 @@ pub(crate) fn edges(rules: &dyn Rules, points: &[i64], counts: &[u32]) -> Vec<Ed
 #[cfg(test)]
 mod tests {
     use super::*;
+    use crate::randoms;
     use crate::rules::Spec;
 
     /// Twice the integral of f over dy along an edge between two heights by
@@ -273,11 +274,8 @@ mod tests {
 
     #[test]
     fn integrals_agree_with_slices() {
-        let mut seed = 1u64;
-        let mut random = |below: i64| {
-            seed = seed.wrapping_mul(6_364_136_223_846_793_005).wrapping_add(1_442_695_040_888_963_407);
-            (seed >> 33) as i64 % below
-        };
+        let mut numbers = randoms(1);
+        let mut random = |below: i64| numbers(below.into()) as i64;
         let mut fractions = 0;
         for _ in 0..4000 {
             let edge = Edge { x0: random(25), y0: random(25), x1: random(25), y1: random(25) };

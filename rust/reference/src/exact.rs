@@ -279,6 +279,7 @@ fn divided(num: i128, den: i128) -> (i128, i128) {
 #[cfg(test)]
 mod tests {
     use super::*;
+    use crate::randoms;
 
     fn of(terms: &[(i128, i128)]) -> Exact {
         let mut sum = Exact::default();
@@ -286,14 +287,6 @@ mod tests {
             sum.add_fraction(num, den);
         }
         sum
-    }
-
-    /// A fixed row of pseudo-random numbers.
-    fn randoms(mut seed: u64) -> impl FnMut(i128) -> i128 {
-        move |below| {
-            seed = seed.wrapping_mul(6_364_136_223_846_793_005).wrapping_add(1_442_695_040_888_963_407);
-            i128::from(seed >> 20) % below
-        }
     }
 
     #[test]

@@ -93,3 +93,12 @@ pub const STEPS: i64 = 256;
 
 /// The grey of full ink; 0 is bare paper.
 pub const FULL_GREY: u8 = 255;
+
+/// A fixed row of pseudo-random numbers, each from 0 up to below what is asked.
+#[cfg(test)]
+fn randoms(mut seed: u64) -> impl FnMut(i128) -> i128 {
+    move |below| {
+        seed = seed.wrapping_mul(6_364_136_223_846_793_005).wrapping_add(1_442_695_040_888_963_407);
+        i128::from(seed >> 20) % below
+    }
+}
