@@ -116,8 +116,9 @@ impl Element for i64 {
     }
 }
 
-/// Elements on each side of a buffer, at the least.
-const MARGIN: usize = 24;
+/// Elements on each side of a buffer, at the least. The widest store of a processor is 64 bytes, so one that begins in the buffer or at its end
+/// does not reach past the margin.
+const MARGIN: usize = 64;
 /// There are up to so many more before it, told from what is in it, so that buffers have every alignment.
 const SHIFTS: usize = 16;
 

@@ -1,5 +1,8 @@
 //! Accepted outlines of many kinds: long edges and short, edges that touch or cross grid lines, corners and the border, hairlines, outlines
 //! without area, round and round the same points, the same contour twice, no contour at all.
+//!
+//! How often each comes, and the reach of a random step, are chosen so that every kind comes by the hundred in the gate's run, and no claim
+//! leans on them: `tests/differential.rs` asserts what must have come.
 use crate::random::Random;
 use reference::{Limits, STEPS};
 
@@ -149,6 +152,7 @@ fn small_steps(random: &mut Random, limit: i64, count: usize) -> Vec<Point> {
 
 /// Points on the sides and middles of cells of some level, or one step beside them.
 fn on_grid_lines(random: &mut Random, limit: i64, count: usize) -> Vec<Point> {
+    // from the tile's width, at most 2^14 steps, down to one step
     let spacing = (limit >> random.index(15)).max(1);
     let on_line = |random: &mut Random| {
         let beside = if random.once_in(4) { random.within(-1, 1) } else { 0 };
@@ -168,6 +172,7 @@ fn room(limit: i64, at: i64, step: i64) -> i64 {
 
 /// Edges of any slope that go through a point where cells meet, or the middle of one.
 fn through_grid_points(random: &mut Random, limit: i64, count: usize) -> Vec<Point> {
+    // from the tile's corners to the middles of the smallest cells, of level 6
     let spacing = (limit >> random.index(8)).max(1);
     let mut points = Vec::new();
     while points.len() < count {
@@ -251,8 +256,10 @@ fn hairline(random: &mut Random, limit: i64, count: usize) -> Vec<Point> {
 
 /// Points within a few steps of a corner that many cells share, where edges are tiny and halves to be rounded frequent.
 fn about_a_corner(random: &mut Random, limit: i64, count: usize) -> Vec<Point> {
+    // the cells' corners and middles, and one level finer, where nothing is special
     let spacing = (limit >> random.index(9)).max(1);
-    let reach = random.within(1, 8);
+    let reach = random.within(1, 8); // so that |dx| × |dy| is often 2, 4 or 8
+
     let (x, y) = (spacing * random.within(0, limit / spacing), spacing * random.within(0, limit / spacing));
     (0..count).map(|_| (x + random.within(-reach, reach), y + random.within(-reach, reach))).collect()
 }
