@@ -21,7 +21,8 @@ use lib.Dec.{eqb, leb, ltb}
 use lib.IntN.{ℤ, pos}
 use lib.ListN.{length, getD, take, replicate}
 use Rattle.integers.specs.Units.{textLimit, greatestSide, greatestDepth}
-use Rattle.tile.specs.Questions.{every, firstNo}
+use Rattle.integers.specs.Tests.{every}
+use Rattle.tile.specs.Questions.{firstNo}
 use Rattle.tile.specs.Outcomes.{ifDone, buildRefusal, buildResult, buildTable, drawRefusal, greysPicture}
 use Rattle.frame.specs.declared.reading.Size.{Size}
 use Rattle.frame.specs.Lines.{newline, lines, closes}

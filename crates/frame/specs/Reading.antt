@@ -16,7 +16,8 @@ use lib.Dec.{eqb, leb, ltb}
 use lib.ListN.{length, take, drop}
 use lib.IntN.{ℤ, pos}
 use Rattle.integers.specs.Units.{textLimit}
-use Rattle.tile.specs.Questions.{every, Question}
+use Rattle.integers.specs.Tests.{every}
+use Rattle.tile.specs.Questions.{Question}
 use Rattle.frame.specs.Digits.{isDigit, hexValue}
 use Rattle.frame.specs.Lines.{lines, closes}
 use Rattle.frame.specs.Frames.{Frame, headWidth, headLength, pointWidth}

@@ -11,7 +11,7 @@ use Prim.Native.Nat.{ℕ, _<_}
 use lib.IntN.{ℤ}
 use Rattle.integers.specs.ListSum.{All}
 use Rattle.tile.specs.Questions.{Yes, No, DecidedBy, question1, question4, question5, question6, question7}
-use Rattle.tile.specs.Laws.Tests.{OneOf}
+use Rattle.integers.specs.Tests.{OneOf}
 use Rattle.tile.specs.Laws.IfDone.{if-refused}
 use Rattle.tile.specs.Laws.FirstNo.{each-number, firstNo-among}
 use Rattle.frame.specs.Over.{over}

@@ -2,7 +2,7 @@
 ghost use mathlib.Core.Path.{_≡_};
 ghost use Prim.Native.Nat.{_<_, _≤_};
 ghost use lib.ListN.{length};
-ghost use Rattle.tile.specs.Questions.{every};
+ghost use Rattle.integers.specs.Tests.{every};
 ghost use Rattle.frame.specs.Digits.{digitChar, digitValue, isDigit, hex, hexValue};
 ghost use Rattle.frame.specs.Frames.{coordinateWidth};
 ghost use Rattle.frame.specs.Over.{over};

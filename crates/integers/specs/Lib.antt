@@ -34,6 +34,10 @@ pub mod HalfSign
 pub mod RangeSum
 pub mod Trapezoid
 pub mod ListSum
+-- what a test says; a test and then another, and a test of every element, as code has them
+pub mod Tests
+pub mod Conjunction
+pub mod Every
 -- the two roundings
 pub mod Rounding
 pub mod RoundHalfAway

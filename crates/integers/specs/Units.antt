@@ -1,4 +1,4 @@
--- The numbers that 01 fixes, each with its reason, and what is worked out from them. This is their only home: a definition, a bound or a contract
+-- The numbers that 01 and 02 fix, each with its reason, and what is worked out from them. This is their only home: a definition, a bound or a contract
 -- names them from here, so that a request which moves one moves one definition and the checks below it.
 --
 -- Definitions
@@ -7,8 +7,10 @@
 --   fewestPoints, mostPoints, mostEdges                             the outline
 --   widthTimesExtentLimit, detailLimit, numeratorLimit              an edge's arithmetic
 --   entryLimit, builtEntryLimit, figureLimit, fullGrey, textLimit   the table, what is drawn of it, the program
+--   partsPerStep, factorLimit, offsetLimit, movableLimit,
+--   placedLimit                                                     placements
 use mathlib.Core.Path.{_≡_, refl}
-use Prim.Native.Nat.{ℕ, _*_, _^_}
+use Prim.Native.Nat.{ℕ, _+_, _*_, _^_}
 
 -- ---- length: "A step is 1/256 pixel." Coordinates are whole steps.
 abbrev pub stepsPerPixel : ℕ
@@ -98,3 +100,27 @@ fullGrey = 255
 -- many points is answered by the questions about counts and not by this one.
 abbrev pub textLimit : ℕ
 textLimit = 16384
+
+-- ---- placements (02, P1): "Every float handed in must be a multiple of 1/65,536". A part is that much; the product of a factor and a coordinate, and
+-- a sum of these, then has few enough of them for a 64-bit float to hold each one exactly.
+abbrev pub partsPerStep : ℕ
+partsPerStep = 65536
+
+-- "factors (a, b, d, e) lie from −2 to 2": a sheet is straightened, and at most doubled in size
+abbrev pub factorLimit : ℕ
+factorLimit = 2
+
+-- "offsets (c, f and a shift's two) from −16,384 to 16,384": the width of the largest tile, either way
+abbrev pub offsetLimit : ℕ
+offsetLimit = 16384
+
+-- "Points to be moved lie from −32,768 to 32,767 before it": from −movableLimit to movableLimit − 1, the whole numbers of 16 bits
+abbrev pub movableLimit : ℕ
+movableLimit = 32768
+
+-- A placed coordinate is at most so far from 0: two products and an offset.
+abbrev pub placedLimit : ℕ
+placedLimit = 2 * (factorLimit * movableLimit) + offsetLimit
+
+placed-limit-is : placedLimit ≡ 147456
+placed-limit-is = refl

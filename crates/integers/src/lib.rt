@@ -3,6 +3,7 @@ ghost use mathlib.Core.Path.{_≡_};
 ghost use lib.IntN.{pos, natAbs};
 ghost use lib.Signed.{_<ℤ_};
 ghost use Rattle.integers.specs.Rounding.{roundHalfAway};
+ghost use Rattle.integers.specs.Tests.{every, between};
 
 // n / d to the nearest whole number, halves away from zero, for every n and every positive d: the answer always fits.
 // Division rounds toward zero, so r has n's sign and lies short of d, and q is corrected by one where r is half of d or more. To double n, or to
@@ -33,4 +34,25 @@ pub fn magnitude(q: i64) -> u64
     } else {
         q as u64
     }
+}
+
+// Is z from low to high?
+pub fn is_within(z: i64, low: i64, high: i64) -> bool
+    ensures { λ b. ⌜ b ≡ between low high z ⌝ }
+{
+    low <= z && z <= high
+}
+
+// Is every number from low to high?
+pub fn all_within(numbers: &[i64], low: i64, high: i64) -> bool
+    ensures { λ b. ⌜ b ≡ every (between low high) (now (numbers .entry)) ⌝ }
+{
+    let mut i = 0;
+    while i < numbers.len() {
+        if !is_within(numbers[i], low, high) {
+            return false;
+        }
+        i += 1;
+    }
+    true
 }

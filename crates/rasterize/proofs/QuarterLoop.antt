@@ -35,10 +35,10 @@ use Rattle.rasterize.specs.declared.Node.{Node}
 use Rattle.rasterize.specs.Added.{added}
 use Rattle.rasterize.specs.Nodes.{quarters, quarterNode}
 use Rattle.rasterize.specs.Contribution.{firstDetail, ownPart, contribution}
-use Rattle.rasterize.specs.Ready.{visits, Spare, Placed, Ready}
+use Rattle.rasterize.specs.Ready.{visits, Spare, OnSheet, Ready}
 use Rattle.rasterize.specs.Laws.Adding.{added-length, added-signed, added-nothing}
 use Rattle.rasterize.specs.Laws.Spare.{spare-le, spare-added, signed-within}
-use Rattle.rasterize.specs.Laws.Placed.{placed-details, quarter-placed}
+use Rattle.rasterize.specs.Laws.OnSheet.{on-sheet-details, quarter-on-sheet}
 use Rattle.rasterize.specs.Laws.Contributions.{own-within, contribution-zero, contribution-suc, contribution-outside, contribution-within}
 use Rattle.rasterize.specs.Laws.ReadyCells.{ready-quarter}
 
@@ -128,7 +128,7 @@ module _ {before : List ℤ} {e : Edge} {sign : ℤ} {left : ℕ} {c : Node} (r 
       quarters-step g h k (s ∙ sym (added-nothing table sign (contribution e left quarter) none))
     where
       none : (i : ℕ) → contribution e left quarter i ≡ pos 0
-      none = contribution-outside left quarter (subst⁻¹ (λ n. Placed e left (n .square)) k (quarter-placed c q h (r .placed))) out
+      none = contribution-outside left quarter (subst⁻¹ (λ n. OnSheet e left (n .square)) k (quarter-on-sheet c q h (r .on-sheet))) out
 
   module _ (s : Within (pos 1) sign) {entry : List ℤ} (o : OwnAdded e sign c before entry) where
     -- the cell's own details have used up the room for one
@@ -136,7 +136,7 @@ module _ {before : List ℤ} {e : Edge} {sign : ℤ} {left : ℕ} {c : Node} (r 
     unfolding visits
     own-spare = subst⁻¹ (λ t. Spare t (quarters * visits left)) (o .sum)
         (spare-added 1 (quarters * visits left) (λ i. sign *ℤ own e c i)
-        (λ i h. signed-within s (own-within (placed-details (r .placed)) (firstDetail c) i)) (r .spare))
+        (λ i h. signed-within s (own-within (on-sheet-details (r .on-sheet)) (firstDetail c) i)) (r .spare))
 
     -- each quarter before this one has used up its own
     pub quarters-asks : {table : List ℤ} {q : ℕ} {quarter : Node} → QuarterLoop e sign c left entry table q → q < quarters → quarter ≡ quarterNode c q
@@ -149,4 +149,4 @@ module _ {before : List ℤ} {e : Edge} {sign : ℤ} {left : ℕ} {c : Node} (r 
         used : (i : ℕ) → Within (pos (q * visits left * detailLimit)) (firstQuarters e c left q i)
         used i = within-is (ap pos {y = q * visits left * detailLimit} (omega arith)) refl
             (Σ-within q (λ p. contribution e left (quarterNode c p) i)
-            (λ p l. contribution-within left (quarterNode c p) (quarter-placed c p (omega arith) (r .placed)) i))
+            (λ p l. contribution-within left (quarterNode c p) (quarter-on-sheet c p (omega arith) (r .on-sheet)) i))

@@ -8,7 +8,7 @@ pub mod Nodes
 pub mod Covering
 pub mod EdgeEntries
 -- from a cell to its quarters; what an edge adds there, and nothing where it has no part inside; what the recursion asks for
-pub mod Placed
+pub mod OnSheet
 pub mod Contributions
 pub mod ReadyCells
 -- an edge on the tile

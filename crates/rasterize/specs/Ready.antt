@@ -5,7 +5,7 @@
 --   visits left                  how many cells a cell and `left` levels from it on have: so often an edge may add to an entry
 --   Spare t n                    there is room for n more details in every entry
 --   SmallDetails w               three details that an edge may have
---   Placed e left s              an edge and a square on one sheet, the square wide enough for `left` levels
+--   OnSheet e left s              an edge and a square on one sheet, the square wide enough for `left` levels
 --   Ready t e left c             a table, an edge and a cell, with `left` levels from the cell's on
 --   Splits c                     a cell that has quarters
 --   Fits t depth n               a table of a tile of side 2^depth, with room for n more edges
@@ -47,7 +47,7 @@ pub record Spare (t : List ℤ) (n : ℕ) : Type 0 where
 abbrev pub SmallDetails : Details → Type 0
 SmallDetails w = DetailsWithin (pos detailLimit) w
 
-pub record Placed (e : Edge) (left : ℕ) (s : Square) : Type 0 where
+pub record OnSheet (e : Edge) (left : ℕ) (s : Square) : Type 0 where
   pub sheet : Square
   pub is-sheet : Sheet sheet
   pub edge-on : OnCell sheet e
@@ -63,7 +63,7 @@ pub record Ready (t : List ℤ) (e : Edge) (left : ℕ) (c : Node) : Type 0 wher
   pub y-below : c .y < 2 ^ c .level
   pub long : children dimensions ^ (c .level + left) ≤ length t
   pub spare : Spare t (visits left)
-  pub placed : Placed e left (c .square)
+  pub on-sheet : OnSheet e left (c .square)
 
 pub record Splits (c : Node) : Type 0 where
   pub shallow : c .level < greatestDepth

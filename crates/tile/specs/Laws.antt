@@ -2,10 +2,7 @@
 
 -- what there is after a call
 pub mod IfDone
--- what a test says; a test and then another, a test of every element as code has it; the first "no" of a list of questions
-pub mod Tests
-pub mod Conjunction
-pub mod Every
+-- the first "no" of a list of questions
 pub mod FirstNo
 -- a side and its depth
 pub mod Sides

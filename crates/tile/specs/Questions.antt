@@ -1,7 +1,6 @@
 -- The questions. Each call asks its own in 01's order, and "The first "no" decides."
 --
 -- Definitions
---   every test l, oneOf n l                the test holds of every element; n is an element
 --   depthOf side                           the depth of a tile
 --   Question, Yes q, No q                  a number, and the answer: true for yes
 --   DecidedBy before q                     the questions before q are answered yes, and q is answered no
@@ -10,7 +9,7 @@
 --   buildingQuestions, drawingQuestions,
 --   cellQuestions                          what building, pictures and greys, and one cell ask
 use mathlib.Core.Path.{_≡_}
-use mathlib.Core.Bool.{Bool, true, false, _&&_, _||_, cond}
+use mathlib.Core.Bool.{Bool, true, false, _&&_, cond}
 use mathlib.Core.List.{List, [], _∷_}
 use Prim.Native.Nat.{ℕ, _*_, _^_}
 use lib.Count.{trailingZeros}
@@ -19,15 +18,8 @@ use lib.ListN.{length}
 use lib.IntN.{ℤ, pos, negℤ}
 use lib.Signed.{leZ}
 use Rattle.integers.specs.Units.{stepsPerPixel, fewestPoints, mostPoints, mostEdges, entryLimit}
+use Rattle.integers.specs.Tests.{every, oneOf}
 use Rattle.accuracy.specs.Outline.{edgeCount}
-
-abbrev pub every : {A : Type 0} → (A → Bool) → List A → Bool
-every test [] = true
-every test (a ∷ l) = test a && every test l
-
-abbrev pub oneOf : ℕ → List ℕ → Bool
-oneOf n [] = false
-oneOf n (m ∷ l) = eqb n m || oneOf n l
 
 -- "the depth is the number of noughts below that bit", of the side's one bit: trailing zeros of its 32 bits
 abbrev pub depthOf : ℕ → ℕ

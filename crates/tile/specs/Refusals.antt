@@ -8,7 +8,7 @@
 --   refused-edges, refused-table,
 --   refused-figures, refused-greys,
 --   refused-figure                          what a refusal carries and leaves
---   question1-means .. question10-means     what "yes" says; `no-means` of `Laws/Tests` makes of each what "no" says
+--   question1-means .. question10-means     what "yes" says; `no-means` of `integers`' Tests makes of each what "no" says
 --   side-of-depth, depth-of-side            a side is 2 to the power of its depth, and each depth has its side
 use mathlib.Core.Path.{_≡_, refl}
 use mathlib.Core.List.{List, [], _∷_}
@@ -32,7 +32,7 @@ use Rattle.tile.specs.Questions.{buildingQuestions, drawingQuestions, ce
 use Rattle.tile.specs.Outcomes.{tableOf, buildRefusal, buildResult, buildTable, drawRefusal, figuresPicture, greysPicture, cellRefusal, cellResult}
 use Rattle.tile.specs.Laws.IfDone.{if-refused}
 use Rattle.tile.specs.Laws.Sides.{side-power, side-depth}
-use Rattle.tile.specs.Laws.Tests.{eqb-means, leb-means, ltb-means, leZ-means, and-means, every-means, OneOf, one-of-means}
+use Rattle.integers.specs.Tests.{eqb-means, leb-means, ltb-means, and-means, every-means, between-means, OneOf, one-of-means}
 use Rattle.tile.specs.Laws.FirstNo.{each-number, firstNo-among}
 
 -- ---- "Building: 1, 2, 4, 5, 3, 6."
@@ -173,9 +173,6 @@ question4-means counts =
 -- "Is the counts' sum at most 1,024?"
 pub question5-means : (counts : List ℕ) → Yes (question5 counts) ↔ (edgeCount counts ≤ mostEdges)
 question5-means counts = leb-means (edgeCount counts) mostEdges
-
-between-means : (lo hi z : ℤ) → ((leZ lo z && leZ z hi) ≡ true) ↔ ((lo ≤ℤ z) × (z ≤ℤ hi))
-between-means lo hi z = and-means (leZ lo z) (leZ z hi) (leZ-means lo z) (leZ-means z hi)
 
 -- "Is every coordinate from 0 to 256 × side?"
 pub question6-means : (side : ℕ) (points : List ℤ) → Yes (question6 side points) ↔ All (λ z. (pos 0 ≤ℤ z) × (z ≤ℤ pos (stepsPerPixel * side))) points

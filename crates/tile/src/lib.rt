@@ -10,7 +10,7 @@ ghost use lib.Dec.{leb};
 ghost use lib.Signed.{leZ};
 ghost use mathlib.Core.Bool.{_&&_};
 ghost use Rattle.integers.specs.Units.{greatestSide, greatestDepth, fewestPoints, mostPoints};
-ghost use Rattle.tile.specs.Questions.{every, depthOf, firstNo, question1, question2, question4, question7, question8, question9, question10};
+ghost use Rattle.tile.specs.Questions.{depthOf, firstNo, question1, question2, question4, question7, question8, question9, question10};
 ghost use Rattle.tile.specs.Outcomes.{buildRefusal, buildResult, buildTable, drawRefusal, figuresPicture, greysPicture, cellRefusal, cellResult};
 ghost use Rattle.tile.specs.Faithful.{Faithful};
 ghost use Rattle.tile.specs.Inner.{cappedEdges, levelQuestions};
@@ -102,27 +102,6 @@ fn is_table(side: u32, table: &[i64]) -> bool
     table.len() == (side * side) as usize
 }
 
-// Is z from low to high?
-fn is_within(z: i64, low: i64, high: i64) -> bool
-    ensures { λ b. ⌜ b ≡ (leZ low z && leZ z high) ⌝ }
-{
-    low <= z && z <= high
-}
-
-// Is every number from low to high? Questions 6 and 9.
-fn all_within(numbers: &[i64], low: i64, high: i64) -> bool
-    ensures { λ b. ⌜ b ≡ every (λ z. leZ low z && leZ z high) (now (numbers .entry)) ⌝ }
-{
-    let mut i = 0;
-    while i < numbers.len() {
-        if !is_within(numbers[i], low, high) {
-            return false;
-        }
-        i += 1;
-    }
-    true
-}
-
 // Is n a contour's number of points?
 fn is_count(n: u32) -> bool
     ensures { λ b. ⌜ b ≡ (leb fewestPoints n && leb n mostPoints) ⌝ }
@@ -180,7 +159,7 @@ fn is_picture(level: u32, size: usize) -> bool
 fn in_range(table: &[i64]) -> bool
     ensures { λ b. ⌜ b ≡ question9 (now (table .entry)) .answer ⌝ }
 {
-    all_within(table, -ENTRY_LIMIT, ENTRY_LIMIT)
+    integers::all_within(table, -ENTRY_LIMIT, ENTRY_LIMIT)
 }
 
 // Question 10.
@@ -212,7 +191,7 @@ fn build_refusal(side: u32, points: &[i64], counts: &[u32], table: &[i64]) -> u3
     if points.len() != 2 * edges {
         return NO_POINTS;
     }
-    if !all_within(points, 0, STEPS_PER_PIXEL * side as i64) {
+    if !integers::all_within(points, 0, STEPS_PER_PIXEL * side as i64) {
         return NO_COORDINATE;
     }
     DONE

@@ -18,7 +18,7 @@ use lib.Dec.{eqb}
 use lib.ListN.{length, getD, length-append}
 use borrow.Author.Tests.{eqb-true, ltb-true, lt-ltb}
 use Rattle.integers.specs.Below.{allBelow, below, both}
-use Rattle.tile.specs.Questions.{every}
+use Rattle.integers.specs.Tests.{every}
 use Rattle.frame.specs.Digits.{hexDigits, indexOf, digitChar, digitValue, isDigit, hex, valueFrom, hexValue}
 
 -- ---- one digit

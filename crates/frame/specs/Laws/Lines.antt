@@ -14,7 +14,7 @@ use native.Mathlib.Omega.{arith}
 use lib.Dec.{eqb, leb}
 use lib.ListN.{length, take, drop}
 use Rattle.integers.specs.Units.{textLimit}
-use Rattle.tile.specs.Questions.{every}
+use Rattle.integers.specs.Tests.{every}
 use Rattle.frame.specs.Lines.{newline, intoFirstLine, lines, closes}
 use Rattle.frame.specs.Reading.{isHead, isContour, areFrameLines, isFrame}
 use Rattle.frame.specs.Inner.{lineLength, isBody}

@@ -21,7 +21,7 @@ use lib.Seq.{length-take-le}
 use borrow.Author.Tests.{eqb-true, leb-true, ltb-true}
 use Rattle.integers.specs.Units.{textLimit}
 use Rattle.integers.specs.Below.{both}
-use Rattle.tile.specs.Questions.{every}
+use Rattle.integers.specs.Tests.{every}
 use Rattle.frame.specs.Digits.{isDigit, hexValue}
 use Rattle.frame.specs.Lines.{lines}
 use Rattle.frame.specs.Frames.{frame}

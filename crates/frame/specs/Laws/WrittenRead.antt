@@ -19,7 +19,7 @@ use Rattle.integers.specs.Order.{nonneg}
 use Rattle.integers.specs.Below.{both}
 use Rattle.integers.specs.ListSum.{All, all-append, tally}
 use Rattle.accuracy.specs.Outline.{edgeCount}
-use Rattle.tile.specs.Questions.{every}
+use Rattle.integers.specs.Tests.{every}
 use Rattle.frame.specs.Digits.{isDigit, hexValue}
 use Rattle.frame.specs.Lines.{newline, intoFirstLine, lines, closes, lineText}
 use Rattle.frame.specs.Frames.{Frame, frame, headWidth, coordinateWidth, contourText, frameText, Sayable, Writable}

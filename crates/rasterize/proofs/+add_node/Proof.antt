@@ -18,7 +18,7 @@ use Rattle.rasterize.specs.Added.{added}
 use Rattle.rasterize.specs.Nodes.{quarters}
 use Rattle.rasterize.specs.Contribution.{contribution}
 use Rattle.rasterize.specs.Ready.{SmallDetails, Ready}
-use Rattle.rasterize.specs.Laws.Placed.{placed-room, placed-details}
+use Rattle.rasterize.specs.Laws.OnSheet.{on-sheet-room, on-sheet-details}
 use Rattle.rasterize.specs.Laws.ReadyCells.{ready-suc, ready-splits, ready-own, ready-first, ready-room}
 use Rattle.rasterize.proofs.QuarterLoop.{OwnAdded, QuarterLoop, own-added, own-length, own-end, not-inside-of-span}
 use Rattle.rasterize.proofs.QuarterLoop.{quarters-start, quarters-asks, quarters-step, quarters-skip, quarters-length, quarters-end}
@@ -106,13 +106,13 @@ pub +add-node-spec : {M : Type 1} → statement M
     add-node-Inv-loop
     add-node-μ-loop
     -- the cell's own details
-    (λ c κs. (c .pre .1 .2, placed-room (ready c .placed), c .pre .1 .3))
+    (λ c κs. (c .pre .1 .2, on-sheet-room (ready c .on-sheet), c .pre .1 .3))
     (λ c κs. let r = ready-splits (ready (c .before .before)) in (r .shallow, r .x-below, r .y-below))
     (λ c κs.
     let s = c .before .before .before in (
       ready-first (ready s) (c .first-detail .ensures),
       ready-own (ready s),
-      subst⁻¹ SmallDetails (c .before .before .details-over .ensures) (placed-details (ready s .placed)),
+      subst⁻¹ SmallDetails (c .before .before .details-over .ensures) (on-sheet-details (ready s .on-sheet)),
       signed s,
     ))
     -- no quarter yet

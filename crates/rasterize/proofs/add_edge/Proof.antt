@@ -18,10 +18,10 @@ use Rattle.rasterize.specs.declared.Node.{Node}
 use Rattle.rasterize.specs.Added.{added}
 use Rattle.rasterize.specs.Nodes.{nodeAt}
 use Rattle.rasterize.specs.Contribution.{contribution}
-use Rattle.rasterize.specs.Ready.{sumLimit, Placed, Ready}
+use Rattle.rasterize.specs.Ready.{sumLimit, OnSheet, Ready}
 use Rattle.rasterize.specs.Laws.Adding.{added-length}
-use Rattle.rasterize.specs.Laws.Placed.{placed-room}
-use Rattle.rasterize.specs.Laws.EdgeOnTile.{measured-on, root-term-within, tile-placed, root-inside, tile-ready, edge-added, pixel-added}
+use Rattle.rasterize.specs.Laws.OnSheet.{on-sheet-room}
+use Rattle.rasterize.specs.Laws.EdgeOnTile.{measured-on, root-term-within, tile-on-sheet, root-inside, tile-ready, edge-added, pixel-added}
 use Rattle.rasterize.proofs.add_edge.Statement.{statement}
 use Rattle.rasterize.proofs.add_edge.Tie as tie
 
@@ -61,8 +61,8 @@ tile-of-requires : tie.Need-tile-of-requires
 tile-of-requires c κs = c .before .before .before .before .before .before .pre .0 .shallow
 
 -- a tile with a level below it has room for its edge
-room-of : {e : Edge} {depth : ℕ} {s : Cell} → 1 ≤ depth → Placed e depth s → Room e s
-room-of {e} {depth} {s} h p = let q : depth ≡ suc (depth - 1) = omega arith in placed-room (subst (λ d. Placed e d s) q p)
+room-of : {e : Edge} {depth : ℕ} {s : Cell} → 1 ≤ depth → OnSheet e depth s → Room e s
+room-of {e} {depth} {s} h p = let q : depth ≡ suc (depth - 1) = omega arith in on-sheet-room (subst (λ d. OnSheet e d s) q p)
 
 span-in-requires : tie.Need-span-in-requires
 span-in-requires c κs =
@@ -71,7 +71,7 @@ span-in-requires c κs =
       w .1,
       subst⁻¹ (λ e. Room e (c .tile-of .result .square)) (w .0)
           (subst⁻¹ (λ n. Room (s .args .e) (n .square)) (c .tile-of .ensures)
-          (room-of (omega (arith, c .before .before .if1 .taken)) (tile-placed (s .pre .0 .shallow) (s .pre .1)))),
+          (room-of (omega (arith, c .before .before .if1 .taken)) (tile-on-sheet (s .pre .0 .shallow) (s .pre .1)))),
     )
 
 add-node-requires : tie.Need-add-node-requires

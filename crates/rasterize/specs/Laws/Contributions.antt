@@ -21,8 +21,8 @@ use Rattle.accuracy.specs.Laws.Numbered.{numbered-any}
 use Rattle.rasterize.specs.declared.Node.{Node}
 use Rattle.rasterize.specs.Nodes.{quarters, quarterNode}
 use Rattle.rasterize.specs.Contribution.{firstDetail, ownPart, contribution}
-use Rattle.rasterize.specs.Ready.{visits, SmallDetails, Placed}
-use Rattle.rasterize.specs.Laws.Placed.{placed-width, placed-details, quarter-placed, quarter-outside}
+use Rattle.rasterize.specs.Ready.{visits, SmallDetails, OnSheet}
+use Rattle.rasterize.specs.Laws.OnSheet.{on-sheet-width, on-sheet-details, quarter-on-sheet, quarter-outside}
 
 -- ---- a cell's own details
 pub own-within : {w : Details} → SmallDetails w → (first i : ℕ) → Within (pos detailLimit) (ownPart w first i)
@@ -41,23 +41,23 @@ pub contribution-suc : (e : Edge) (left : ℕ) (c : Node) (i : ℕ)
 unfolding contribution
 contribution-suc e left c i = refl
 
-pub contribution-outside : {e : Edge} (left : ℕ) (c : Node) → Placed e left (c .square) → (Inside e (c .square) → ⊥) → (i : ℕ) → contribution e left c i ≡ pos 0
+pub contribution-outside : {e : Edge} (left : ℕ) (c : Node) → OnSheet e left (c .square) → (Inside e (c .square) → ⊥) → (i : ℕ) → contribution e left c i ≡ pos 0
 contribution-outside {e} zero c p out i = contribution-zero e c i
 contribution-outside {e} (suc left) c p out i =
     contribution-suc e left c i
-    ∙ ap₂ _+ℤ_ (ap (λ w. ownPart w (firstDetail c) i) (details-zero e (c .square) (placed-width p) out) ∙ own-zero (firstDetail c) i)
+    ∙ ap₂ _+ℤ_ (ap (λ w. ownPart w (firstDetail c) i) (details-zero e (c .square) (on-sheet-width p) out) ∙ own-zero (firstDetail c) i)
     (Σ-cong quarters (λ q. contribution e left (quarterNode c q) i) (λ q. pos 0)
-    (λ q h. contribution-outside left (quarterNode c q) (quarter-placed c q h p) (quarter-outside c q h p out) i)
+    (λ q h. contribution-outside left (quarterNode c q) (quarter-on-sheet c q h p) (quarter-outside c q h p out) i)
     ∙ Σ-const quarters (pos 0))
 
-pub contribution-within : {e : Edge} (left : ℕ) (c : Node) → Placed e left (c .square) → (i : ℕ)
+pub contribution-within : {e : Edge} (left : ℕ) (c : Node) → OnSheet e left (c .square) → (i : ℕ)
     → Within (pos (visits left * detailLimit)) (contribution e left c i)
 unfolding visits
 contribution-within {e} zero c p i = within-is refl (sym (contribution-zero e c i)) (within-zero 0)
 contribution-within {e} (suc left) c p i =
     within-is total (sym (contribution-suc e left c i))
-    (within-add (own-within (placed-details p) (firstDetail c) i)
-    (Σ-within quarters (λ q. contribution e left (quarterNode c q) i) (λ q h. contribution-within left (quarterNode c q) (quarter-placed c q h p) i)))
+    (within-add (own-within (on-sheet-details p) (firstDetail c) i)
+    (Σ-within quarters (λ q. contribution e left (quarterNode c q) i) (λ q h. contribution-within left (quarterNode c q) (quarter-on-sheet c q h p) i)))
   where
     total : pos detailLimit +ℤ pos quarters *ℤ pos (visits left * detailLimit) ≡ pos ((1 + quarters * visits left) * detailLimit)
     total = ap pos (omega arith)

@@ -3,7 +3,7 @@
 -- Main results
 --   measured-on                  its coordinates are in `edge`'s range
 --   root-term-within             its term of the signed area is no larger than a detail
---   tile-placed                  it and the tile's square lie on one sheet, the tile, which can be halved once for each level
+--   tile-on-sheet                  it and the tile's square lie on one sheet, the tile, which can be halved once for each level
 --   tile-ready                   so a table with room for it can be given to the recursion, once the root has its part
 --   root-inside                  a table has a root
 --   edge-added                   the root's part and the recursion's are the edge's table
@@ -37,7 +37,7 @@ use Rattle.accuracy.specs.Laws.EntryBounds.{tile-width-le, edge-bounded}
 use Rattle.rasterize.specs.Added.{added, entryOf}
 use Rattle.rasterize.specs.Nodes.{nodeAt}
 use Rattle.rasterize.specs.Contribution.{contribution}
-use Rattle.rasterize.specs.Ready.{visits, Spare, Placed, Ready, Fits}
+use Rattle.rasterize.specs.Ready.{visits, Spare, OnSheet, Ready, Fits}
 use Rattle.rasterize.specs.Laws.Adding.{added-unique, added-signed, added-nothing}
 use Rattle.rasterize.specs.Laws.Spare.{signed-within, spare-le, spare-added}
 use Rattle.rasterize.specs.Laws.Contributions.{contribution-zero}
@@ -66,8 +66,8 @@ module _ {depth : ℕ} {e : Edge} (shallow : depth ≤ greatestDepth) (on : Edge
   pub root-term-within : Within (pos detailLimit) (rootTerm e)
   root-term-within = within-le square-limit (edge-bounded on .root-within)
 
-  pub tile-placed : Placed e depth (nodeAt depth 0 0 0 .square)
-  tile-placed =
+  pub tile-on-sheet : OnSheet e depth (nodeAt depth 0 0 0 .square)
+  tile-on-sheet =
       let same : depth - 0 ≡ depth = omega arith in
       record {
         sheet = tile depth;
@@ -127,7 +127,7 @@ module _ {t : List ℤ} {depth : ℕ} {e : Edge} {sign : ℤ} (fits : Fits t dep
             subst⁻¹ (λ l. Spare l (visits depth)) is-added
             (spare-added 1 (visits depth) (λ i. sign *ℤ atRoot (rootTerm e) i) (λ i h. signed-within unit (root-part-within i))
             (spare-le fewer (fits .spare)));
-        placed = tile-placed (fits .shallow) on;
+        on-sheet = tile-on-sheet (fits .shallow) on;
       }
 
   -- both parts together

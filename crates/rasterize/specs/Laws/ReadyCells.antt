@@ -23,9 +23,9 @@ use Rattle.haar.specs.Laws.Layout.{index-within, index-plane}
 use Rattle.rasterize.specs.declared.Node.{Node}
 use Rattle.rasterize.specs.Nodes.{quarters, quarterNode}
 use Rattle.rasterize.specs.Contribution.{firstDetail}
-use Rattle.rasterize.specs.Ready.{visits, Spare, Placed, Ready, Splits}
+use Rattle.rasterize.specs.Ready.{visits, Spare, OnSheet, Ready, Splits}
 use Rattle.rasterize.specs.Laws.Spare.{spare-le}
-use Rattle.rasterize.specs.Laws.Placed.{placed-width, placed-room, quarter-placed}
+use Rattle.rasterize.specs.Laws.OnSheet.{on-sheet-width, on-sheet-room, quarter-on-sheet}
 
 -- ---- a table, an edge and a cell, with the cell's level left and perhaps more
 pub ready-suc : {t : List ℤ} {e : Edge} {left : ℕ} {c : Node} → 1 ≤ left → Ready t e left c → Ready t e (suc (left - 1)) c
@@ -34,7 +34,7 @@ ready-suc {t} {e} {left} {c} h r = subst (λ n. Ready t e n c) (omega arith) r
 module _ {t : List ℤ} {e : Edge} {left : ℕ} {c : Node} (r : Ready t e (suc left) c) where
   pub ready-splits : Splits c
   ready-splits =
-      let room = placed-room (r .placed) in
+      let room = on-sheet-room (r .on-sheet) in
       record {
         shallow = omega (arith, r .shallow);
         x-below = r .x-below;
@@ -48,8 +48,8 @@ module _ {t : List ℤ} {e : Edge} {left : ℕ} {c : Node} (r : Ready t e (suc l
       -- the sheet is at least one step wide
       wide : c .square .width ≤ℤ pos coordinateLimit
       wide =
-          let p = r .placed in
-          lin≤ (p .sheet .width ∷ c .square .width ∷ []) (le (≤ℤ-mul (p .is-sheet .width) (placed-width p)) & le (p .narrow)) (search linear depth 40) tt
+          let p = r .on-sheet in
+          lin≤ (p .sheet .width ∷ c .square .width ∷ []) (le (≤ℤ-mul (p .is-sheet .width) (on-sheet-width p)) & le (p .narrow)) (search linear depth 40) tt
 
   -- room for the cell's own details
   pub ready-own : Spare t 1
@@ -71,10 +71,10 @@ module _ {t : List ℤ} {e : Edge} {left : ℕ} {c : Node} (r : Ready t e (suc l
     y-below = omega (arith, r .y-below, pow-suc 2 (c .level));
     long = subst (λ n. children dimensions ^ n ≤ length t′) {x = c .level + suc left} {y = suc (c .level) + left} (omega arith) (omega (arith, k, r .long));
     spare = s;
-    placed = quarter-placed c q h (r .placed);
+    on-sheet = quarter-on-sheet c q h (r .on-sheet);
   }
 
   -- where there are levels below, the edge has room in a quarter too
   pub ready-room : {q : ℕ} {quarter : Node} → 1 ≤ left → q < quarters → quarter ≡ quarterNode c q → Room e (quarter .square)
   ready-room {q} h l k = subst⁻¹ (λ (n : Node). Room e (n .square)) k
-      (placed-room (subst (λ n. Placed e n (quarterNode c q .square)) {y = suc (left - 1)} (omega arith) (quarter-placed c q l (r .placed))))
+      (on-sheet-room (subst (λ n. OnSheet e n (quarterNode c q .square)) {y = suc (left - 1)} (omega arith) (quarter-on-sheet c q l (r .on-sheet))))

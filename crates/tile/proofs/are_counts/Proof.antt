@@ -7,8 +7,8 @@ use lib.ListN.{length, drop}
 use borrow.Author.Needs.{needs}
 use borrow.Author.Tests.{not-true, not-false}
 use Rattle.integers.specs.Units.{fewestPoints, mostPoints}
-use Rattle.tile.specs.Questions.{every}
-use Rattle.tile.specs.Laws.Every.{every-fails, every-next, every-end}
+use Rattle.integers.specs.Tests.{every}
+use Rattle.integers.specs.Every.{every-fails, every-next, every-end}
 use Rattle.tile.proofs.are_counts.Statement.{statement}
 use Rattle.tile.proofs.are_counts.Tie as tie
 

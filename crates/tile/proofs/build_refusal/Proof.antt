@@ -14,7 +14,8 @@ use borrow.Author.Tests.{le-leb, lt-leb, eq-eqb, ne-eqb, not-false}
 use Rattle.integers.specs.Units.{stepsPerPixel, greatestSide, mostEdges}
 use Rattle.integers.specs.Machine.{known}
 use Rattle.accuracy.specs.Outline.{edgeCount}
-use Rattle.tile.specs.Questions.{Question, every, question6, buildingQuestions}
+use Rattle.integers.specs.Tests.{every, between}
+use Rattle.tile.specs.Questions.{Question, question6, buildingQuestions}
 use Rattle.tile.specs.Laws.Sides.{side-le}
 use Rattle.tile.proofs.Asking.{After, none-asked, no-at, yes-at, refused, passed}
 use Rattle.tile.proofs.CountsSum.{edges-within, edges-over, capped-within}
@@ -96,7 +97,7 @@ module _ (c : tie.Else5) where
 asked-6 : (c : tie.After-all-within) → c .all-within .result ≡ question6 (side (c .before)) (start (c .before .before .before) .args .points .now) .answer
 asked-6 c =
     let points = start (c .before .before .before) .args .points .now in
-    c .all-within .ensures ∙ ap (λ high. every (λ z. leZ (pos 0) z && leZ z high) points) (known (limit-fits (c .before)) (limit-is (c .before)))
+    c .all-within .ensures ∙ ap (λ high. every (between (pos 0) high) points) (known (limit-fits (c .before)) (limit-is (c .before)))
 
 returns-6 : tie.Need-returns-6
 returns-6 c = refused (after-5 (c .before .before)) (asked-6 (c .before)) (c .if6 .taken)

@@ -3,7 +3,7 @@ use mathlib.Core.Path.{sym, _∙_, ap}
 use lib.Dec.{ltb}
 use borrow.Author.Needs.{needs}
 use borrow.Author.Tests.{lt-ltb, le-ltb}
-use Rattle.tile.specs.Laws.Conjunction.{second-decides, first-decides}
+use Rattle.integers.specs.Conjunction.{second-decides, first-decides}
 use Rattle.tile.proofs.is_cell.Statement.{statement}
 use Rattle.tile.proofs.is_cell.Tie as tie
 

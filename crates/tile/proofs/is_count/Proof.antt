@@ -1,6 +1,6 @@
 -- One comparison, and then the other.
 use borrow.Author.Tests.{le-leb, lt-leb}
-use Rattle.tile.specs.Laws.Conjunction.{second-decides, first-decides}
+use Rattle.integers.specs.Conjunction.{second-decides, first-decides}
 use Rattle.tile.proofs.is_count.Statement.{statement}
 use Rattle.tile.proofs.is_count.Tie as tie
 

@@ -13,8 +13,8 @@ use mathlib.Core.Bool.{Bool, true, false, not, _&&_, cond, true≢false}
 use Prim.Native.Nat.{ℕ}
 use lib.Dec.{T, T-not, eqb, eqb-refl}
 use Rattle.integers.specs.ListSum.{All}
-use Rattle.tile.specs.Questions.{Yes, DecidedBy, every, Question, firstNo}
-use Rattle.tile.specs.Laws.Tests.{OneOf}
+use Rattle.integers.specs.Tests.{every, OneOf}
+use Rattle.tile.specs.Questions.{Yes, DecidedBy, Question, firstNo}
 
 -- ---- a test of the numbers alone, so that for a given list of questions it is computed
 abbrev unlike : ℕ → List Question → Bool

@@ -17,7 +17,7 @@ use Rattle.haar.specs.Cells.{children}
 use Rattle.haar.specs.Plane.{dimensions}
 use Rattle.haar.specs.Laws.Cells.{level-square}
 use Rattle.tile.specs.Questions.{depthOf, question1}
-use Rattle.tile.specs.Laws.Tests.{OneOf, one-of-means}
+use Rattle.integers.specs.Tests.{OneOf, one-of-means}
 
 pub side-cases : (P : ℕ → Type 0) → P 1 → P 2 → P 4 → P 8 → P 16 → P 32 → P 64 → (side : ℕ) → question1 side .answer ≡ true → P side
 side-cases P p₁ p₂ p₄ p₈ p₁₆ p₃₂ p₆₄ side e = go (one-of-means side (1 ∷ 2 ∷ 4 ∷ 8 ∷ 16 ∷ 32 ∷ 64 ∷ []) .0 e)

@@ -5,8 +5,8 @@ use native.Mathlib.Omega.{arith}
 use lib.ListN.{length, getD, drop}
 use borrow.Author.Needs.{needs}
 use borrow.Author.Tests.{lt-ltb, le-ltb}
-use Rattle.tile.specs.Questions.{every}
-use Rattle.tile.specs.Laws.Every.{every-fails, every-next, every-end}
+use Rattle.integers.specs.Tests.{every}
+use Rattle.integers.specs.Every.{every-fails, every-next, every-end}
 use Rattle.frame.specs.Digits.{digitValue, isDigit}
 use Rattle.frame.specs.Laws.Digits.{digit-value-le}
 use Rattle.frame.proofs.hex.are_digits.Statement.{statement}

@@ -8,8 +8,8 @@ use lib.Dec.{eqb}
 use lib.ListN.{length}
 use borrow.Author.Needs.{needs}
 use borrow.Author.Tests.{eq-eqb, ne-eqb, lt-ltb, le-ltb}
-use Rattle.tile.specs.Questions.{every}
-use Rattle.tile.specs.Laws.Conjunction.{second-decides, first-decides}
+use Rattle.integers.specs.Tests.{every}
+use Rattle.integers.specs.Conjunction.{second-decides, first-decides}
 use Rattle.frame.specs.Digits.{isDigit}
 use Rattle.frame.specs.Reading.{isContour}
 use Rattle.frame.proofs.reading.is_contour.Statement.{statement}

@@ -2,7 +2,7 @@
 use mathlib.Core.Path.{_∙_}
 use borrow.Author.Needs.{needs}
 use borrow.Author.Tests.{eq-eqb, ne-eqb}
-use Rattle.tile.specs.Laws.Conjunction.{second-decides, first-decides}
+use Rattle.integers.specs.Conjunction.{second-decides, first-decides}
 use Rattle.frame.proofs.reading.is_head.Statement.{statement}
 use Rattle.frame.proofs.reading.is_head.Tie as tie
 

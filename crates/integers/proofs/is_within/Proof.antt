@@ -2,9 +2,9 @@
 use mathlib.Core.Path.{sym, _∙_, ap₂}
 use lib.Signed.{leZ}
 use mir.Facts.{toZ-ofZ}
-use Rattle.tile.specs.Laws.Conjunction.{second-decides, first-decides}
-use Rattle.tile.proofs.is_within.Statement.{statement}
-use Rattle.tile.proofs.is_within.Tie as tie
+use Rattle.integers.specs.Conjunction.{second-decides, first-decides}
+use Rattle.integers.proofs.is_within.Statement.{statement}
+use Rattle.integers.proofs.is_within.Tie as tie
 
 returns : tie.Need-returns
 returns c =

@@ -11,7 +11,7 @@ use Prim.Native.Nat.{ℕ, suc, _+_, _<_, _≤_}
 use native.Mathlib.Numerals.{add-one}
 use lib.ListN.{length, getD, drop, drop-of-length-le}
 use lib.Seq.{drop-cons}
-use Rattle.tile.specs.Questions.{every}
+use Rattle.integers.specs.Tests.{every}
 
 module _ {A : Type 0} (test : A → Bool) (d : A) (xs : List A) (i : ℕ) where
   every-at : {b : Bool} → i < length xs → test (getD xs i d) ≡ b → every test (drop i xs) ≡ (b && every test (drop (suc i) xs))

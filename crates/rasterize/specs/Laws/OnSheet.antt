@@ -1,11 +1,11 @@
--- From a cell to its quarters: an edge and a square that are placed on one sheet stay so in each quarter. So wherever the recursion comes the edge
+-- From a cell to its quarters: an edge and a square that lie on one sheet do so in each quarter. So wherever the recursion comes the edge
 -- has room, and its details are small.
 --
 -- Main results
---   placed-width, placed-even, placed-room           a square that can be halved once more: its width is even, and the edge has room in it
---   placed-details                                   and its details there are small
---   placed-contains, placed-quarter                  its quarters lie in it, and are placed like it
---   quarter-placed, quarter-outside                  the same of quarter q of a cell; an edge outside the cell is outside the quarter
+--   on-sheet-width, on-sheet-even, on-sheet-room     a square that can be halved once more: its width is even, and the edge has room in it
+--   on-sheet-details                                 and its details there are small
+--   on-sheet-contains, on-sheet-quarter              its quarters lie in it, and on the sheet like it
+--   quarter-on-sheet, quarter-outside                the same of quarter q of a cell; an edge outside the cell is outside the quarter
 use mathlib.Core.Path.{_≡_, sym, _∙_, ap}
 use mathlib.Core.List.{[], _∷_}
 use Prim.Native.Nat.{ℕ, suc, _*_, _/_, _%_, _^_, _<_}
@@ -26,11 +26,11 @@ use Rattle.edge.specs.Laws.Cells.{contains-trans, contains-quarter, sheet-room,
 use Rattle.edge.specs.Laws.Zero.{inside-wider}
 use Rattle.rasterize.specs.declared.Node.{Node}
 use Rattle.rasterize.specs.Nodes.{quarters, halfWidth, quarterNode}
-use Rattle.rasterize.specs.Ready.{SmallDetails, Placed}
+use Rattle.rasterize.specs.Ready.{SmallDetails, OnSheet}
 use Rattle.rasterize.specs.Laws.Nodes.{halfWidth-is}
 
 -- ---- a square that can be halved once more
-module _ {e : Edge} {left : ℕ} {s : Square} (p : Placed e (suc left) s) where
+module _ {e : Edge} {left : ℕ} {s : Square} (p : OnSheet e (suc left) s) where
   abbrev half : ℤ
   half = pos (2 ^ left * p .finest)
 
@@ -46,27 +46,27 @@ module _ {e : Edge} {left : ℕ} {s : Square} (p : Placed e (suc left) s) where
   half≥0 : pos 0 ≤ℤ halfWidth s
   half≥0 = nonneg (natAbs (s .width) / 2)
 
-  pub placed-width : pos 0 ≤ℤ s .width
-  placed-width = lin≤ (s .width ∷ halfWidth s ∷ []) (eq twice & le half≥0) (search linear depth 40) tt
+  pub on-sheet-width : pos 0 ≤ℤ s .width
+  on-sheet-width = lin≤ (s .width ∷ halfWidth s ∷ []) (eq twice & le half≥0) (search linear depth 40) tt
 
-  pub placed-even : Even (s .width)
-  placed-even = record { half = halfWidth s; half≥0 = half≥0; twice = twice }
+  pub on-sheet-even : Even (s .width)
+  on-sheet-even = record { half = halfWidth s; half≥0 = half≥0; twice = twice }
 
-  pub placed-room : Room e s
-  placed-room = sheet-room (p .is-sheet) (p .edge-on) (p .square-on) placed-even (p .narrow)
+  pub on-sheet-room : Room e s
+  on-sheet-room = sheet-room (p .is-sheet) (p .edge-on) (p .square-on) on-sheet-even (p .narrow)
 
-  pub placed-details : SmallDetails (details e s)
-  placed-details = details-on s (p .edge-on) placed-width (p .narrow)
+  pub on-sheet-details : SmallDetails (details e s)
+  on-sheet-details = details-on s (p .edge-on) on-sheet-width (p .narrow)
 
-  pub placed-contains : (a b : ℕ) → a < 2 → b < 2 → Contains s (quarter s (halfWidth s) a b)
-  placed-contains a b h k = contains-quarter s (halfWidth s) twice half≥0 a b h k
+  pub on-sheet-contains : (a b : ℕ) → a < 2 → b < 2 → Contains s (quarter s (halfWidth s) a b)
+  on-sheet-contains a b h k = contains-quarter s (halfWidth s) twice half≥0 a b h k
 
-  pub placed-quarter : (a b : ℕ) → a < 2 → b < 2 → Placed e left (quarter s (halfWidth s) a b)
-  placed-quarter a b h k = record {
+  pub on-sheet-quarter : (a b : ℕ) → a < 2 → b < 2 → OnSheet e left (quarter s (halfWidth s) a b)
+  on-sheet-quarter a b h k = record {
     sheet = p .sheet;
     is-sheet = p .is-sheet;
     edge-on = p .edge-on;
-    square-on = contains-trans (p .square-on) (placed-contains a b h k);
+    square-on = contains-trans (p .square-on) (on-sheet-contains a b h k);
     narrow = narrow;
     finest = p .finest;
     halves = sym half-is;
@@ -79,9 +79,9 @@ module _ {e : Edge} {left : ℕ} {s : Square} (p : Placed e (suc left) s) where
           (le (p .narrow) & eq (ap (λ z. w *ℤ z) twice) & le (≤ℤ-mul (p .is-sheet .width) half≥0) & le half≥0) (search linear depth 40) tt
 
 -- quarter q of a cell lies in half q % 2 from the left and half q / 2 from the top
-pub quarter-placed : {e : Edge} {left : ℕ} (c : Node) (q : ℕ) → q < quarters → Placed e (suc left) (c .square) → Placed e left (quarterNode c q .square)
-quarter-placed c q h p = placed-quarter p (q % 2) (q / 2) (omega arith) (omega arith)
+pub quarter-on-sheet : {e : Edge} {left : ℕ} (c : Node) (q : ℕ) → q < quarters → OnSheet e (suc left) (c .square) → OnSheet e left (quarterNode c q .square)
+quarter-on-sheet c q h p = on-sheet-quarter p (q % 2) (q / 2) (omega arith) (omega arith)
 
-pub quarter-outside : {e : Edge} {left : ℕ} (c : Node) (q : ℕ) → q < quarters → Placed e (suc left) (c .square) → (Inside e (c .square) → ⊥)
+pub quarter-outside : {e : Edge} {left : ℕ} (c : Node) (q : ℕ) → q < quarters → OnSheet e (suc left) (c .square) → (Inside e (c .square) → ⊥)
     → Inside e (quarterNode c q .square) → ⊥
-quarter-outside {e} c q h p out i = out (inside-wider e (placed-contains p (q % 2) (q / 2) (omega arith) (omega arith)) i)
+quarter-outside {e} c q h p out i = out (inside-wider e (on-sheet-contains p (q % 2) (q / 2) (omega arith) (omega arith)) i)

@@ -10,19 +10,16 @@ use mir.Val.{toZ}
 use mir.Facts.{toZ-ofZ}
 use borrow.Author.Needs.{needs}
 use borrow.Author.Tests.{not-true, not-false}
 use Rattle.integers.specs.Bits.{back, field-is}
-use Rattle.tile.specs.Questions.{every}
-use Rattle.tile.specs.Laws.Every.{every-fails, every-next, every-end}
-use Rattle.tile.proofs.all_within.Statement.{statement}
-use Rattle.tile.proofs.all_within.Tie as tie
-
-abbrev within : ℤ → ℤ → ℤ → Bool
-within low high z = leZ low z && leZ z high
+use Rattle.integers.specs.Tests.{every, between}
+use Rattle.integers.specs.Every.{every-fails, every-next, every-end}
+use Rattle.integers.proofs.all_within.Statement.{statement}
+use Rattle.integers.proofs.all_within.Tie as tie
 
 -- the bounds as they are held
 abbrev Inv-loop : tie.InvT-loop
 Inv-loop numbers low high i₀ i =
-    (i ≤ length numbers) × (every (within (toZ w64 low) (toZ w64 high)) numbers ≡ every (within (toZ w64 low) (toZ w64 high)) (drop i numbers))
+    (i ≤ length numbers) × (every (between (toZ w64 low) (toZ w64 high)) numbers ≡ every (between (toZ w64 low) (toZ w64 high)) (drop i numbers))
 
 abbrev μ-loop : tie.MeasureT-loop
 μ-loop numbers low high i₀ i = length numbers - i
@@ -39,10 +36,10 @@ shared-slice-copy-out-is-within c = search needs
 -- and as they were given
 module _ (s : tie.Start Inv-loop μ-loop) where
   abbrev held : ℤ → Bool
-  held = within (back (s .args .low)) (back (s .args .high))
+  held = between (back (s .args .low)) (back (s .args .high))
 
-  bounds-are : every held (s .args .numbers .now) ≡ every (within (s .args .low) (s .args .high)) (s .args .numbers .now)
-  bounds-are = ap₂ (λ low high. every (within low high) (s .args .numbers .now)) (toZ-ofZ (s .fits .low)) (toZ-ofZ (s .fits .high))
+  bounds-are : every held (s .args .numbers .now) ≡ every (between (s .args .low) (s .args .high)) (s .args .numbers .now)
+  bounds-are = ap₂ (λ low high. every (between low high) (s .args .numbers .now)) (toZ-ofZ (s .fits .low)) (toZ-ofZ (s .fits .high))
 
 returns : tie.Need-returns Inv-loop μ-loop
 returns c =

@@ -1,8 +1,11 @@
--- What the tests in the questions say: each is true exactly where a proposition holds.
+-- Tests, which code answers with true or false, and what each says: it is true exactly where a proposition holds. Acceptance is asked by them.
 --
+-- Definitions
+--   every test l, oneOf n l                         the test holds of every element; n is an element
+--   between low high z                              z is from low to high
 -- Main results
 --   eqb-means, leb-means, ltb-means, leZ-means      equality and order
---   and-means, every-means                          both; of every element
+--   and-means, every-means, between-means           both; of every element; from low to high
 --   OneOf n l, one-of-means                         n is an element of l
 --   no-means                                        false exactly where the proposition does not hold
 use mathlib.Core.Path.{_≡_, refl, sym}
@@ -14,9 +17,19 @@ use lib.Dec.{T, eqb, leb, ltb}
 use lib.IntN.{ℤ}
 use lib.Signed.{leZ, _≤ℤ_}
 use borrow.Author.Tests.{eqb-true, leb-true, ltb-true, eq-eqb, le-leb, lt-ltb}
 use Rattle.integers.specs.Order.{leZ-true}
 use Rattle.integers.specs.ListSum.{All}
-use Rattle.tile.specs.Questions.{every, oneOf}
+
+abbrev pub every : {A : Type 0} → (A → Bool) → List A → Bool
+every test [] = true
+every test (a ∷ l) = test a && every test l
+
+abbrev pub oneOf : ℕ → List ℕ → Bool
+oneOf n [] = false
+oneOf n (m ∷ l) = eqb n m || oneOf n l
+
+abbrev pub between : ℤ → ℤ → ℤ → Bool
+between low high z = leZ low z && leZ z high
 
 -- ---- equality and order
 pub eqb-means : (a b : ℕ) → (eqb a b ≡ true) ↔ (a ≡ b)
@@ -43,6 +56,9 @@ and-means false b p q = (λ e. absurd (true≢false (sym e)), λ h. p .1 (h .0))
 pub every-means : {A : Type 0} (test : A → Bool) {P : A → Type 0} → ((a : A) → (test a ≡ true) ↔ P a) → (l : List A) → (every test l ≡ true) ↔ All P l
 every-means test p [] = (λ _. tt, λ _. refl)
 every-means test p (a ∷ l) = and-means (test a) (every test l) (p a) (every-means test p l)
+
+pub between-means : (low high z : ℤ) → (between low high z ≡ true) ↔ ((low ≤ℤ z) × (z ≤ℤ high))
+between-means low high z = and-means (leZ low z) (leZ z high) (leZ-means low z) (leZ-means z high)
 
 -- n is an element of l
 abbrev pub OneOf : ℕ → List ℕ → Type 0
