@@ -86,9 +86,9 @@ module _ (t : List ℕ) (done : frameRefusal t ≡ 0) where
   shallow : f .level ≤ depthOf (f .side)
   shallow = question7-means (f .side) (f .level) .0 (yes .1 .1 .1 .1 .1 .0)
 
-  near : tile-drawn.Drawn (f .side) (f .points) (f .counts) built (f .level)
+  near : tile-drawn.DrawnOutline (f .side) (f .points) (f .counts) built (f .level)
   near =
-      subst (λ l. tile-drawn.Drawn (f .side) (f .points) (f .counts) l (f .level)) (built-table f written blank blank-length building)
+      subst (λ l. tile-drawn.DrawnOutline (f .side) (f .points) (f .counts) l (f .level)) (built-table f written blank blank-length building)
       (faithful (f .side) (f .points) (f .counts) (usedTable f blank) .drawn building (f .level) shallow)
 
   first-length : length first ≡ summaryLength
@@ -138,7 +138,7 @@ module _ (t : List ℕ) (done : frameRefusal t ≡ 0) where
   printed =
       subst⁻¹ (Printed f) output
       (record {
-        first-line = take-at first rows summaryLength first-length ∙ ap (summaryText (edgeCount (f .counts))) (near .root);
+        first-line = take-at first rows summaryLength first-length ∙ ap (summaryText (edgeCount (f .counts))) (near .root-entry);
         greys = grey-near;
         denominator-positive = faithful (f .side) (f .points) (f .counts) (usedTable f blank) .denominator-positive;
         digits = λ cx cy h k. digits-are cx cy h k ∙ ap (hex greyWidth) (sym (grey-is cx cy h k));

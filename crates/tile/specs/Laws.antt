@@ -11,7 +11,8 @@ pub mod Answers
 -- so what is known of an accepted outline, and of the table that building leaves
 pub mod Accepted
 pub mod BuiltTable
--- a level and a table that no drawing call refuses
+-- a level and a table that no drawing call refuses; a drawn area beside the exact one
 pub mod DrawnTable
+pub mod DrawnArea
 -- a given outline's table and pictures, by computing them
 pub mod Computed

@@ -24,13 +24,13 @@ use Rattle.integers.specs.Units.{greatestSide, greatestDepth}
 use Rattle.integers.specs.ListSum.{All}
 use Rattle.accuracy.specs.Outline.{edgeCount}
 use Rattle.tile.specs.Questions.{Question, Yes, depthOf, firstNo, question1, question2, question3, question4, question5, question6, question7}
-use Rattle.tile.specs.Outcomes.{ifDone, drawRefusal}
+use Rattle.tile.specs.Outcomes.{ifDone, edgesOf, drawRefusal}
 use Rattle.tile.specs.Refusals.{building-refusals, drawing-refusals, refused-table, question2-means, question3-means, question7-means}
 use Rattle.tile.specs.DrawnFigures.{greys-drawn}
 use Rattle.tile.specs.Theorem.{faithful}
 use Rattle.tile.specs.Laws.Sides.{side-le, side-depth, side-power}
 use Rattle.tile.specs.Laws.IfDone.{if-done, if-refused}
-use Rattle.tile.specs.Laws.BuiltTable.{built-is, tableOf-length}
+use Rattle.tile.specs.Laws.BuiltTable.{built-is, table-length}
 use Rattle.frame.specs.Over.{over}
 use Rattle.frame.specs.Frames.{Frame}
 use Rattle.frame.specs.OutputLines.{refusalText, summaryText, rowsText}
@@ -142,7 +142,7 @@ module _ (f : Frame) (w : length (f .points) ≡ 2 * edgeCount (f .counts)) (tab
             ∙ sym (ap (λ l. drawRefusal (f .side) (f .level) l (4 ^ f .level)) built-table)
             ∙ faithful (f .side) (f .points) (f .counts) (usedTable f table) .drawn done (f .level) shallow .not-refused
         go false e =
-            let yes2 = question2-means (f .side) built .1 (tableOf-length (f .side) (f .points) (f .counts) is-side) in
+            let yes2 = question2-means (f .side) built .1 (table-length (f .side) (edgesOf (f .points) (f .counts)) is-side) in
             drawing-refusals (f .side) (f .level) built (pictureSize (f .level)) .refused7 .1 (is-side, (yes2, e))
 
   -- all questions of a frame
@@ -188,7 +188,7 @@ module _ (f : Frame) (w : length (f .points) ≡ 2 * edgeCount (f .counts)) (tab
           let y = is-side z in
           let none : outlineRefusal f ≡ 0 =
           outline-number ∙ ap (λ n. ifDone n (firstNo (question7 (f .side) (f .level) ∷ [])) n) z ∙ ap (λ b. cond b 0 7) (level-yes (f .side) (f .level) y d) in
-          let n : usedEntries (f .side) ≡ length (frameTable f) = used-is y ∙ sym (tableOf-length (f .side) (f .points) (f .counts) y) in
+          let n : usedEntries (f .side) ≡ length (frameTable f) = used-is y ∙ sym (table-length (f .side) (edgesOf (f .points) (f .counts)) y) in
           ap₂ (λ l k. l ++ drop k table) (built-table z) n ∙ sym (if-done (over (frameTable f) table) table none)
       go (suc k) z =
           let some : outlineRefusal f ≡ suc k = outline-number ∙ ap (λ n. ifDone n (firstNo (question7 (f .side) (f .level) ∷ [])) n) z in

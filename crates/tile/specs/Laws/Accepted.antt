@@ -1,10 +1,9 @@
 -- What is known of an accepted outline: "An outline is accepted where every question for building is answered yes."
 --
 -- Main results
---   Accepted, accepted           what the answers say of the side, the table and the outline
---   accepted-edges               its edges are as many as the counts' sum
---   accepted-few                 and so no more than the most
---   accepted-accurate            what is drawn of its table is near its exact areas
+--   Accepted, accepted               what the answers say of the side, the table and the outline
+--   accepted-count                   its edges are as many as the counts' sum
+--   AcceptedEdges, accepted-edges    and so no more than the most, and what is drawn of their table is near their exact areas
 use mathlib.Core.Path.{_≡_, _∙_, ap, subst}
 use mathlib.Core.List.{List}
 use Prim.Native.Nat.{ℕ, _*_, _-_, _^_, _≤_}
@@ -14,6 +13,7 @@ use lib.IntN.{ℤ, pos}
 use lib.Signed.{_≤ℤ_}
 use Rattle.integers.specs.Units.{stepsPerPixel, mostEdges}
 use Rattle.integers.specs.ListSum.{All}
+use Rattle.edge.specs.declared.Edge.{Edge}
 use Rattle.accuracy.specs.Outline.{contoursOf, edgeCount}
 use Rattle.accuracy.specs.Tile.{cellWidth}
 use Rattle.accuracy.specs.Accurate.{Accurate}
@@ -50,13 +50,20 @@ accepted side points counts table done =
           (question6-means side points .0 (yes .1 .1 .1 .1 .1 .0));
     }
 
+-- Edges whose table can be drawn as promised, whatever kind of outline they are of. (Question 4 is none of it: an outline's edges are accepted, however
+-- they were counted.)
+pub record AcceptedEdges (side : ℕ) (es : List Edge) : Type 0 where
+  pub is-side : Yes (question1 side)
+  pub few-edges : length es ≤ mostEdges
+  pub accurate : Accurate (depthOf side) es
+
 module _ {side : ℕ} {points : List ℤ} {counts : List ℕ} {table : List ℤ} (a : Accepted side points counts table) where
-  pub accepted-edges : length (edgesOf points counts) ≡ edgeCount counts
-  accepted-edges = contoursOf-count counts points (omega (arith, a .points-length))
+  pub accepted-count : length (edgesOf points counts) ≡ edgeCount counts
+  accepted-count = contoursOf-count counts points (omega (arith, a .points-length))
 
-  pub accepted-few : length (edgesOf points counts) ≤ mostEdges
-  accepted-few = omega (arith, accepted-edges, a .few-edges)
-
-  pub accepted-accurate : Accurate (depthOf side) (edgesOf points counts)
-  accepted-accurate =
-      outline-accurate (depthOf side) (contoursOf counts points) (contoursOf-on-tile (depthOf side) counts points (a .on-tile)) .accurate
+  pub accepted-edges : AcceptedEdges side (edgesOf points counts)
+  accepted-edges = record {
+    is-side = a .is-side;
+    few-edges = omega (arith, accepted-count, a .few-edges);
+    accurate = outline-accurate (depthOf side) (contoursOf counts points) (contoursOf-on-tile (depthOf side) counts points (a .on-tile)) .accurate;
+  }
