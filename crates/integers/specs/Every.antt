@@ -4,14 +4,19 @@
 --   every-fails                the element at i fails: the test does not hold of every element
 --   every-next                 it passes: the others decide
 --   every-end                  there is none
-use mathlib.Core.Path.{_≡_, sym, _∙_, ap}
+--   every-pair                 the same of two elements at once
+--   every-entry, every-part    where the test holds of every element, it holds of one, and of every element of a part
+use mathlib.Core.Path.{_≡_, refl, sym, _∙_, ap}
+use mathlib.Core.Logic.{_↔_}
 use mathlib.Core.Bool.{Bool, true, false, _&&_}
 use mathlib.Core.List.{List}
 use Prim.Native.Nat.{ℕ, suc, _+_, _<_, _≤_}
 use native.Mathlib.Numerals.{add-one}
-use lib.ListN.{length, getD, drop, drop-of-length-le}
+use native.Mathlib.Omega.{arith}
+use lib.ListN.{length, getD, take, drop, drop-of-length-le}
 use lib.Seq.{drop-cons}
-use Rattle.integers.specs.Tests.{every}
+use Rattle.integers.specs.ListSum.{All, all-entry, all-take, all-drop}
+use Rattle.integers.specs.Tests.{every, every-means}
 
 module _ {A : Type 0} (test : A → Bool) (d : A) (xs : List A) (i : ℕ) where
   every-at : {b : Bool} → i < length xs → test (getD xs i d) ≡ b → every test (drop i xs) ≡ (b && every test (drop (suc i) xs))
@@ -25,3 +30,34 @@ module _ {A : Type 0} (test : A → Bool) (d : A) (xs : List A) (i : ℕ) where
 
   pub every-end : length xs ≤ i → every test (drop i xs) ≡ true
   every-end h = ap (every test) (drop-of-length-le xs h)
+
+-- ---- two elements at once
+same-answer : (a b c : Bool) → (a && (b && c)) ≡ (a && b && c)
+same-answer true b c = refl
+same-answer false b c = refl
+
+pub every-pair : {A : Type 0} (test : A → Bool) (d : A) (xs : List A) (i : ℕ) {b : Bool} → i + 1 < length xs → (test (getD xs i d) && test (getD xs (i + 1) d)) ≡ b
+    → every test (drop i xs) ≡ (b && every test (drop (i + 2) xs))
+every-pair test d xs i h e =
+    let first = test (getD xs i d) in
+    let next : suc i ≡ i + 1 = omega arith in
+    let past : suc (i + 1) ≡ i + 2 = omega arith in
+    every-at test d xs i (omega arith) refl
+    ∙ ap (λ k. first && every test (drop k xs)) next
+    ∙ ap (λ r. first && r) (every-at test d xs (i + 1) h refl ∙ ap (λ k. test (getD xs (i + 1) d) && every test (drop k xs)) past)
+    ∙ same-answer first (test (getD xs (i + 1) d)) (every test (drop (i + 2) xs))
+    ∙ ap (λ b. b && every test (drop (i + 2) xs)) e
+
+-- ---- where the test holds of every element
+module _ {A : Type 0} (test : A → Bool) where
+  abbrev Passes : A → Type 0
+  Passes a = test a ≡ true
+
+  each-passes : (l : List A) → (every test l ≡ true) ↔ All Passes l
+  each-passes = every-means test (λ a. (λ e. e, λ e. e))
+
+  pub every-entry : (d : A) (l : List A) → every test l ≡ true → (i : ℕ) → i < length l → test (getD l i d) ≡ true
+  every-entry d l e = all-entry Passes d l (each-passes l .0 e)
+
+  pub every-part : (i n : ℕ) (l : List A) → every test l ≡ true → every test (take n (drop i l)) ≡ true
+  every-part i n l e = each-passes (take n (drop i l)) .1 (all-take Passes n (drop i l) (all-drop Passes i l (each-passes l .0 e)))

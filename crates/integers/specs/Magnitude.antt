@@ -4,9 +4,11 @@
 --   abs-view                        |z| is z or −z, whichever is not negative
 --   abs-nonneg, le-abs, neg-le-abs, abs-le     |z| ≤ b is z ≤ b and −z ≤ b
 --   abs-neg, abs-mul, abs-triangle  of a negation, a product, a sum
-use mathlib.Core.Path.{_≡_, refl, subst}
+--   natAbs-mul, natAbs-triangle     the last two, of natural numbers
+use mathlib.Core.Path.{_≡_, refl, ap, subst}
 use mathlib.Core.List.{[], _∷_}
-use Prim.Native.Nat.{zero, suc, _*_}
+use Prim.Native.Nat.{zero, suc, _+_, _*_, _≤_}
+use lib.Dec.{leb→le}
 use lib.IntN.{ℤ, pos, negsuc, negℤ, natAbs, _+ℤ_, _*ℤ_}
 use lib.Signed.{_≤ℤ_, leZ-yes}
 use Rattle.integers.specs.Order.{nonneg}
@@ -41,6 +43,10 @@ abs-mul (pos a) (negsuc b) = abs-neg (pos (a * suc b))
 abs-mul (negsuc a) (pos b) = abs-neg (pos (suc a * b))
 abs-mul (negsuc a) (negsuc b) = refl
 
+pub natAbs-mul : (x y : ℤ) → natAbs (x *ℤ y) ≡ natAbs x * natAbs y
+unfolding abs
+natAbs-mul x y = ap natAbs (abs-mul x y)
+
 -- ---- |z| ≤ b, by two inequalities
 pub le-abs : (z : ℤ) → z ≤ℤ abs z
 le-abs z = go (abs-view z)
@@ -63,3 +69,7 @@ pub abs-triangle : (x y : ℤ) → abs (x +ℤ y) ≤ℤ (abs x +ℤ abs y)
 abs-triangle x y =
     abs-le (lin≤ (x ∷ y ∷ abs x ∷ abs y ∷ []) (le (le-abs x) & le (le-abs y)) (search linear depth 40) tt)
     (lin≤ (x ∷ y ∷ abs x ∷ abs y ∷ []) (le (neg-le-abs x) & le (neg-le-abs y)) (search linear depth 40) tt)
+
+pub natAbs-triangle : (x y : ℤ) → natAbs (x +ℤ y) ≤ natAbs x + natAbs y
+unfolding abs
+natAbs-triangle x y = leb→le (natAbs (x +ℤ y)) (natAbs x + natAbs y) (abs-triangle x y .le)

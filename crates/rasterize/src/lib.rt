@@ -11,8 +11,10 @@
 //       |      /|       |        are worked out from its cell's. What is added is multiplied by a sign, 1 to add and -1 to take out again.
 //       +-----/-+-------+
 //
-// A contour is the slice of its own points, and its last point joins its first. An outline is one contour after the other.
+// A contour is the slice of its own points, and its last point joins its first. An outline is one contour after the other. A placement moves points:
+// each is fetched, placed, when an edge that begins or ends there is made, so that no list of placed points is kept.
 ghost use mathlib.Core.Path.{_≡_};
+ghost use mathlib.Core.Bool.{true};
 ghost use Prim.Native.Nat.{_+_, _*_, _/_, _%_, _-_, _<_, _≤_};
 ghost use lib.ListN.{length, getD, set};
 ghost use lib.IntN.{pos, _+ℤ_, _*ℤ_};
@@ -26,6 +28,7 @@ ghost use Rattle.integers.specs.Units.{greatestDepth, detailLimit};
 ghost use Rattle.accuracy.specs.Outline.{pointsOf, contoursOf, edgeCount, contourEdges, outlineEdges};
 ghost use Rattle.accuracy.specs.Tile.{OnTile, EdgeOnTile};
 ghost use Rattle.accuracy.specs.OutlineTable.{edgeTable, outlineTable};
+ghost use Rattle.placement.specs.Placed.{placeable, placed};
 ghost use Rattle.rasterize.specs.Added.{added, entryOf};
 ghost use Rattle.rasterize.specs.Nodes.{quarters, quarterNode, nodeAt};
 ghost use Rattle.rasterize.specs.Contribution.{ownPart, contribution};
@@ -36,6 +39,7 @@ use edge::Details;
 use edge::Edge;
 use edge::Span;
 use edge::Walk;
+use placement::Placement;
 
 // The quarters of a cell.
 const QUARTERS: usize = 4;
@@ -145,40 +149,49 @@ pub fn add_edge(table: &mut [i64], e: Edge, sign: i64, depth: usize)
     }
 }
 
-// The edge from point k of a contour's n points to the next one; from the last, to the first.
-fn edge_from(points: &[i64], n: usize, k: usize) -> Edge
-    requires { ⌜ (k < n) × (2 * n ≤ length (now points)) ⌝ }
-    ensures { λ r. ⌜ r ≡ edgeOf (now (points .entry)) n k ⌝ }
+// The edge from point k of a contour's n points, as placed, to the next one; from the last, to the first.
+fn edge_from(points: &[i64], placement: Placement, n: usize, k: usize) -> Edge
+    requires { ⌜ (k < n) × (2 * n ≤ length (now points)) × (placeable placement (now points) ≡ true) ⌝ }
+    ensures { λ r. ⌜ r ≡ edgeOf (placed placement (now (points .entry))) n k ⌝ }
 {
     let next = if k + 1 < n { k + 1 } else { 0 };
+    let from = placement::point_at(placement, points, k);
+    let to = placement::point_at(placement, points, next);
     Edge {
-        x0: points[2 * k],
-        y0: points[2 * k + 1],
-        x1: points[2 * next],
-        y1: points[2 * next + 1],
+        x0: from.x,
+        y0: from.y,
+        x1: to.x,
+        y1: to.y,
     }
 }
 
-// Adds the edges of a contour, given by its own points.
-pub fn add_contour(table: &mut [i64], points: &[i64], sign: i64, depth: usize)
-    requires { ⌜ Fits (now table) depth (length (now points) / 2) × All (OnTile depth) (pointsOf (now points)) × Within (pos 1) sign ⌝ }
-    ensures { λ _. ⌜ now (table .exit) ≡ added (now (table .entry)) (λ i. sign *ℤ entryOf depth (outlineTable depth (contourEdges (pointsOf (now (points .entry))))) i) ⌝ }
+// Adds the edges of a contour, given by its own points, as placed.
+pub fn add_contour(table: &mut [i64], points: &[i64], placement: Placement, sign: i64, depth: usize)
+    requires { ⌜ Fits (now table) depth (length (now points) / 2) × All (OnTile depth) (pointsOf (placed placement (now points))) × Within (pos 1) sign × (placeable placement (now points) ≡ true) ⌝ }
+    ensures { λ _. ⌜ now (table .exit) ≡ added (now (table .entry)) (λ i. sign *ℤ entryOf depth (outlineTable depth (contourEdges (pointsOf (placed placement (now (points .entry)))))) i) ⌝ }
 {
     let n = points.len() / 2;
     for k in 0..n {
-        add_edge(table, edge_from(points, n, k), sign, depth);
+        add_edge(table, edge_from(points, placement, n, k), sign, depth);
     }
 }
 
-// Adds the contours of an outline: each is the run of points that begins where the one before ended.
-pub fn add_outline(table: &mut [i64], points: &[i64], counts: &[u32], sign: i64, depth: usize)
-    requires { ⌜ Fits (now table) depth (edgeCount (now counts)) × (2 * edgeCount (now counts) ≤ length (now points)) × All (All (OnTile depth)) (contoursOf (now counts) (now points)) × Within (pos 1) sign ⌝ }
-    ensures { λ _. ⌜ now (table .exit) ≡ added (now (table .entry)) (λ i. sign *ℤ entryOf depth (outlineTable depth (outlineEdges (contoursOf (now (counts .entry)) (now (points .entry))))) i) ⌝ }
+// Adds the contours of an outline, as placed: each is the run of points that begins where the one before ended.
+pub fn add_outline(
+    table: &mut [i64],
+    points: &[i64],
+    counts: &[u32],
+    placement: Placement,
+    sign: i64,
+    depth: usize,
+)
+    requires { ⌜ Fits (now table) depth (edgeCount (now counts)) × (2 * edgeCount (now counts) ≤ length (now points)) × All (All (OnTile depth)) (contoursOf (now counts) (placed placement (now points))) × Within (pos 1) sign × (placeable placement (now points) ≡ true) ⌝ }
+    ensures { λ _. ⌜ now (table .exit) ≡ added (now (table .entry)) (λ i. sign *ℤ entryOf depth (outlineTable depth (outlineEdges (contoursOf (now (counts .entry)) (placed placement (now (points .entry)))))) i) ⌝ }
 {
     let mut start = 0;
     for k in 0..counts.len() {
         let end = start + 2 * counts[k] as usize;
-        add_contour(table, &points[start..end], sign, depth);
+        add_contour(table, &points[start..end], placement, sign, depth);
         start = end;
     }
 }

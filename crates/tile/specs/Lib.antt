@@ -1,12 +1,13 @@
--- What the four public calls answer and leave, for every input; and what is promised of an outline and of what is drawn of it. Read in this order.
+-- What the five public calls answer and leave, for every input; and what is promised of an outline and of what is drawn of it. Read in this order.
 --
 -- What is cited of the crates below is defined in their files of definitions. The trail of an entry: Outline, OutlineTable and Tile of `accuracy`,
 -- then Rounded, Integrals and Walk of `edge`, with Clamp, Tent, Trapezoid and Rounding of `integers`. Of an exact area: ExactArea of `accuracy`, then
 -- Integrals of `edge`, with Fraction of `integers`. Of a figure and a grey: Plane, Figures, Signs, Table, Entries, Pictures and Greys of `haar`. The
--- numbers of 01 are in Units of `integers`. The words of the three demands are in docs/ARCHITECTURE.md.
+-- numbers of 01 and 02 are in Units of `integers`; where a placement takes a point is in Parts and Placed of `placement`. The words of the three
+-- demands are in docs/ARCHITECTURE.md.
 
 -- ---- the calls
--- the ten questions, and the order in which each call asks them
+-- the questions, and the order in which each call asks them
 pub mod Questions
 -- what each call answers, and what its buffers hold afterwards
 pub mod Outcomes
@@ -18,6 +19,8 @@ pub mod DrawnFigures
 -- ---- demand 3: the claim from the outline to what is drawn of it, and that it holds
 pub mod Faithful
 pub mod Theorem
+-- ---- 02's placements: what is built is the outline as placed, so demands 2 and 3 are of that one
+pub mod PlacedOutline
 -- ---- 01's letters
 pub mod Letters
 -- ---- what inner functions answer

@@ -6,6 +6,7 @@
 --   edgesOf points counts                    the edges of an outline
 --   tableOf side points counts               the table of an outline: its entries, in order
 --   buildRefusal, buildResult, buildTable    building: the number; the number and the edge count; the table afterwards
+--   placedRefusal, placedResult, placedTable building with a placement: the same of the outline as placed
 --   drawRefusal                              pictures of figures or of greys: the number
 --   figuresPicture, greysPicture             the picture afterwards
 --   pictureIndex                             where a cell stands in a picture
@@ -18,11 +19,13 @@ use Rattle.edge.specs.declared.Edge.{Edge}
 use Rattle.haar.specs.Entries.{entries}
 use Rattle.haar.specs.Greys.{greyOf}
 use Rattle.haar.specs.Plane.{dimensions, figureIn, pictureIn}
+use Rattle.placement.specs.declared.Placement.{Placement}
+use Rattle.placement.specs.Placed.{placed}
 use Rattle.accuracy.specs.Outline.{contoursOf, edgeCount, outlineEdges}
 use Rattle.accuracy.specs.OutlineTable.{outlineTable}
 use Rattle.tile.specs.declared.Built.{Built}
 use Rattle.tile.specs.declared.CellFigure.{CellFigure}
-use Rattle.tile.specs.Questions.{depthOf, firstNo, buildingQuestions, drawingQuestions, cellQuestions}
+use Rattle.tile.specs.Questions.{depthOf, firstNo, buildingQuestions, placedQuestions, drawingQuestions, cellQuestions}
 
 abbrev pub ifDone : {A : Type 0} → ℕ → A → A → A
 ifDone zero a b = a
@@ -49,6 +52,20 @@ buildResult side points counts table = record {
 
 abbrev pub buildTable : ℕ → List ℤ → List ℕ → List ℤ → List ℤ
 buildTable side points counts table = ifDone (buildRefusal side points counts table) (tableOf side points counts) table
+
+-- ---- building with a placement: "the drawn outline is the one that demand 3 measures", that of the points as placed
+abbrev pub placedRefusal : ℕ → List ℤ → List ℕ → Placement → List ℤ → ℕ
+placedRefusal side points counts placement table = firstNo (placedQuestions side points counts placement table)
+
+abbrev pub placedResult : ℕ → List ℤ → List ℕ → Placement → List ℤ → Built
+placedResult side points counts placement table = record {
+  number = placedRefusal side points counts placement table;
+  edges = ifDone (placedRefusal side points counts placement table) (edgeCount counts) 0;
+}
+
+abbrev pub placedTable : ℕ → List ℤ → List ℕ → Placement → List ℤ → List ℤ
+placedTable side points counts placement table =
+    ifDone (placedRefusal side points counts placement table) (tableOf side (placed placement points) counts) table
 
 -- ---- pictures of figures and of greys
 abbrev pub drawRefusal : ℕ → ℕ → List ℤ → ℕ → ℕ

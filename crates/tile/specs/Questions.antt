@@ -4,10 +4,12 @@
 --   depthOf side                           the depth of a tile
 --   Question, Yes q, No q                  a number, and the answer: true for yes
 --   DecidedBy before q                     the questions before q are answered yes, and q is answered no
---   question1 .. question10                the ten questions
+--   question1 .. question10                01's ten questions
+--   question12                             02's question about a placement
 --   firstNo qs                             the number of the first question whose answer is no; 0 where all are yes
 --   buildingQuestions, drawingQuestions,
 --   cellQuestions                          what building, pictures and greys, and one cell ask
+--   placedQuestions                        what building with a placement asks
 use mathlib.Core.Path.{_≡_}
 use mathlib.Core.Bool.{Bool, true, false, _&&_, cond}
 use mathlib.Core.List.{List, [], _∷_}
@@ -19,6 +21,8 @@ use lib.IntN.{ℤ, pos, negℤ}
 use lib.Signed.{leZ}
 use Rattle.integers.specs.Units.{stepsPerPixel, fewestPoints, mostPoints, mostEdges, entryLimit}
 use Rattle.integers.specs.Tests.{every, oneOf}
+use Rattle.placement.specs.declared.Placement.{Placement}
+use Rattle.placement.specs.Placed.{placeable, placed}
 use Rattle.accuracy.specs.Outline.{edgeCount}
 
 -- "the depth is the number of noughts below that bit", of the side's one bit: trailing zeros of its 32 bits
@@ -39,7 +43,7 @@ abbrev pub DecidedBy : List Question → Question → Type 0
 DecidedBy [] q = No q
 DecidedBy (b ∷ before) q = Yes b × DecidedBy before q
 
--- ---- the ten
+-- ---- the ten of 01
 -- "Is the side 1, 2, 4, 8, 16, 32 or 64?"
 abbrev pub question1 : ℕ → Question
 question1 side = record { number = 1; answer = oneOf side (1 ∷ 2 ∷ 4 ∷ 8 ∷ 16 ∷ 32 ∷ 64 ∷ []) }
@@ -80,6 +84,12 @@ question9 table = record { number = 9; answer = every (λ z. leZ (negℤ (pos en
 abbrev pub question10 : ℕ → ℕ → ℕ → Question
 question10 level cx cy = record { number = 10; answer = ltb cx (2 ^ level) && ltb cy (2 ^ level) }
 
+-- ---- of 02
+-- "A float or a point to be moved outside these rules, an infinity or a not-a-number gives 12": is every float of the placement a multiple of 1/65,536
+-- in its range, and every point that it moves where it may be? With no placement nothing is moved, and nothing is asked.
+abbrev pub question12 : Placement → List ℤ → Question
+question12 placement points = record { number = 12; answer = placeable placement points }
+
 -- ---- "The first "no" decides."
 abbrev pub firstNo : List Question → ℕ
 firstNo [] = 0
@@ -97,3 +107,9 @@ drawingQuestions side level table size = question1 side ∷ question2 side table
 -- "One cell: 1, 2, 7, 10, 9."
 abbrev pub cellQuestions : ℕ → ℕ → ℕ → ℕ → List ℤ → List Question
 cellQuestions side level cx cy table = question1 side ∷ question2 side table ∷ question7 side level ∷ question10 level cx cy ∷ question9 table ∷ []
+
+-- "12, after 3 and before 6, and 6 is decided on the placed points": 1, 2, 4, 5, 3, 12, 6.
+abbrev pub placedQuestions : ℕ → List ℤ → List ℕ → Placement → List ℤ → List Question
+placedQuestions side points counts placement table =
+    question1 side ∷ question2 side table ∷ question4 counts ∷ question5 counts ∷ question3 points counts ∷ question12 placement points
+    ∷ question6 side (placed placement points) ∷ []

@@ -3,12 +3,16 @@
 --
 -- Main results
 --   BuildingRefusals, building-refusals     when building answers each number
+--   PlacedRefusals, placed-refusals         the same of building with a placement
 --   DrawingRefusals, drawing-refusals       the same of pictures and greys
 --   CellRefusals, cell-refusals             and of one cell
 --   refused-edges, refused-table,
+--   refused-placed-edges,
+--   refused-placed-table,
 --   refused-figures, refused-greys,
 --   refused-figure                          what a refusal carries and leaves
---   question1-means .. question10-means     what "yes" says; `no-means` of `integers`' Tests makes of each what "no" says
+--   question1-means .. question10-means,
+--   question12-means                        what "yes" says; `no-means` of `integers`' Tests makes of each what "no" says
 --   side-of-depth, depth-of-side            a side is 2 to the power of its depth, and each depth has its side
 use mathlib.Core.Path.{_≡_, refl}
 use mathlib.Core.List.{List, [], _∷_}
@@ -26,10 +30,12 @@ use Rattle.integers.specs.Within.{Within}
 use Rattle.integers.specs.ListSum.{All}
 use Rattle.haar.specs.Greys.{greyOf}
 use Rattle.haar.specs.Plane.{figureIn, pictureIn}
+use Rattle.placement.specs.declared.Placement.{Placement}
+use Rattle.placement.specs.Placed.{placed}
 use Rattle.accuracy.specs.Outline.{edgeCount}
-use Rattle.tile.specs.Questions.{Yes, No, DecidedBy, depthOf, question1, question2, question3, question4, question5, question6, question7, question8, question9, question10}
-use Rattle.tile.specs.Questions.{buildingQuestions, drawingQuestions, cellQuestions}
-use Rattle.tile.specs.Outcomes.{tableOf, buildRefusal, buildResult, buildTable, drawRefusal, figuresPicture, greysPicture, cellRefusal, cellResult}
+use Rattle.tile.specs.Questions.{Yes, No, DecidedBy, depthOf, question1, question2, question3, question4, question5, question6, question7, question8, question9, question10, question12}
+use Rattle.tile.specs.Questions.{buildingQuestions, placedQuestions, drawingQuestions, cellQuestions}
+use Rattle.tile.specs.Outcomes.{tableOf, buildRefusal, buildResult, buildTable, placedRefusal, placedResult, placedTable, drawRefusal, figuresPicture, greysPicture, cellRefusal, cellResult}
 use Rattle.tile.specs.Laws.IfDone.{if-refused}
 use Rattle.tile.specs.Laws.Sides.{side-power, side-depth}
 use Rattle.integers.specs.Tests.{eqb-means, leb-means, ltb-means, and-means, every-means, between-means, OneOf, one-of-means}
@@ -61,6 +67,41 @@ building-refusals side points counts table =
       refused6 = each .1 .1 .1 .1 .1 .0;
       accepted = each .1 .1 .1 .1 .1 .1;
       no-other = firstNo-among (buildingQuestions side points counts table);
+    }
+
+-- ---- with a placement: 1, 2, 4, 5, 3, 12, 6
+pub record PlacedRefusals (side : ℕ) (points : List ℤ) (counts : List ℕ) (placement : Placement) (table : List ℤ) : Type 0 where
+  pub accepted : (placedRefusal side points counts placement table ≡ 0) ↔ All Yes (placedQuestions side points counts placement table)
+  pub refused1 : (placedRefusal side points counts placement table ≡ 1) ↔ No (question1 side)
+  pub refused2 : (placedRefusal side points counts placement table ≡ 2) ↔ DecidedBy (question1 side ∷ []) (question2 side table)
+  pub refused4 : (placedRefusal side points counts placement table ≡ 4)
+      ↔ DecidedBy (question1 side ∷ question2 side table ∷ []) (question4 counts)
+  pub refused5 : (placedRefusal side points counts placement table ≡ 5)
+      ↔ DecidedBy (question1 side ∷ question2 side table ∷ question4 counts ∷ []) (question5 counts)
+  pub refused3 : (placedRefusal side points counts placement table ≡ 3)
+      ↔ DecidedBy (question1 side ∷ question2 side table ∷ question4 counts ∷ question5 counts ∷ []) (question3 points counts)
+  pub refused12 : (placedRefusal side points counts placement table ≡ 12)
+      ↔ DecidedBy (question1 side ∷ question2 side table ∷ question4 counts ∷ question5 counts ∷ question3 points counts ∷ []) (question12 placement points)
+  pub refused6 : (placedRefusal side points counts placement table ≡ 6)
+      ↔ DecidedBy
+      (question1 side ∷ question2 side table ∷ question4 counts ∷ question5 counts ∷ question3 points counts ∷ question12 placement points ∷ [])
+      (question6 side (placed placement points))
+  pub no-other : OneOf (placedRefusal side points counts placement table) (0 ∷ 1 ∷ 2 ∷ 4 ∷ 5 ∷ 3 ∷ 12 ∷ 6 ∷ [])
+
+pub placed-refusals : (side : ℕ) (points : List ℤ) (counts : List ℕ) (placement : Placement) (table : List ℤ)
+    → PlacedRefusals side points counts placement table
+placed-refusals side points counts placement table =
+    let each = each-number (placedQuestions side points counts placement table) tt in
+    record {
+      refused1 = each .0;
+      refused2 = each .1 .0;
+      refused4 = each .1 .1 .0;
+      refused5 = each .1 .1 .1 .0;
+      refused3 = each .1 .1 .1 .1 .0;
+      refused12 = each .1 .1 .1 .1 .1 .0;
+      refused6 = each .1 .1 .1 .1 .1 .1 .0;
+      accepted = each .1 .1 .1 .1 .1 .1 .1;
+      no-other = firstNo-among (placedQuestions side points counts placement table);
     }
 
 -- ---- "Pictures and greys: 1, 2, 7, 8, 9."
@@ -124,6 +165,14 @@ refused-edges side points counts table h = if-refused (edgeCount counts) 0 (nonz
 pub refused-table : (side : ℕ) (points : List ℤ) (counts : List ℕ) (table : List ℤ) → 0 < buildRefusal side points counts table
     → buildTable side points counts table ≡ table
 refused-table side points counts table h = if-refused (tableOf side points counts) table (nonzero h)
+
+pub refused-placed-edges : (side : ℕ) (points : List ℤ) (counts : List ℕ) (placement : Placement) (table : List ℤ)
+    → 0 < placedRefusal side points counts placement table → placedResult side points counts placement table .edges ≡ 0
+refused-placed-edges side points counts placement table h = if-refused (edgeCount counts) 0 (nonzero h)
+
+pub refused-placed-table : (side : ℕ) (points : List ℤ) (counts : List ℕ) (placement : Placement) (table : List ℤ)
+    → 0 < placedRefusal side points counts placement table → placedTable side points counts placement table ≡ table
+refused-placed-table side points counts placement table h = if-refused (tableOf side (placed placement points) counts) table (nonzero h)
 
 pub refused-figures : (side level : ℕ) (table picture : List ℤ) → 0 < drawRefusal side level table (length picture)
     → figuresPicture side level table picture ≡ picture

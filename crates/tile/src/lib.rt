@@ -1,6 +1,6 @@
-// A letter's outline into a table of Haar coefficients, and pictures of it at every halving: the four public calls.
+// A letter's outline into a table of Haar coefficients, and pictures of it at every halving: the five public calls.
 //
-// None asks anything of its caller. Each asks 01's questions of what it is given, in 01's order; the first "no" decides, and its number is the
+// None asks anything of its caller. Each asks its questions of what it is given, in 01's order; the first "no" decides, and its number is the
 // answer. Where all are answered yes the answer is 0 and the work is done. A refused call changes nothing.
 ghost use mathlib.Core.Path.{_≡_};
 ghost use Prim.Native.Nat.{_+_, _*_, _<_, _≤_};
@@ -11,9 +11,11 @@ ghost use lib.Signed.{leZ};
 ghost use mathlib.Core.Bool.{_&&_};
 ghost use Rattle.integers.specs.Units.{greatestSide, greatestDepth, fewestPoints, mostPoints};
 ghost use Rattle.tile.specs.Questions.{depthOf, firstNo, question1, question2, question4, question7, question8, question9, question10};
-ghost use Rattle.tile.specs.Outcomes.{buildRefusal, buildResult, buildTable, drawRefusal, figuresPicture, greysPicture, cellRefusal, cellResult};
-ghost use Rattle.tile.specs.Faithful.{Faithful};
+ghost use Rattle.placement.specs.Placed.{placed};
+ghost use Rattle.tile.specs.Outcomes.{buildResult, buildTable, placedRefusal, placedResult, placedTable, drawRefusal, figuresPicture, greysPicture, cellRefusal, cellResult};
+ghost use Rattle.tile.specs.Faithful.{Faithful, FaithfulOutline};
 ghost use Rattle.tile.specs.Inner.{cappedEdges, levelQuestions};
+use placement::Placement;
 
 // What building answers: the number of its refusal, or 0, and the edge count.
 pub struct Built {
@@ -77,6 +79,9 @@ const NO_RANGE: u32 = 9;
 
 // Question 10: does the level have the cell?
 const NO_CELL: u32 = 10;
+
+// Question 12: are the placement's floats, and the points that it moves, as they must be?
+const NO_PLACEMENT: u32 = 12;
 
 // ---- the questions
 
@@ -171,9 +176,15 @@ fn is_cell(level: u32, cx: u32, cy: u32) -> bool
     (cx as usize) < n && (cy as usize) < n
 }
 
-// Building's questions: the first "no", or 0.
-fn build_refusal(side: u32, points: &[i64], counts: &[u32], table: &[i64]) -> u32
-    ensures { λ r. ⌜ r ≡ buildRefusal side (now (points .entry)) (now (counts .entry)) (now (table .entry)) ⌝ }
+// Building's questions, with a placement: the first "no", or 0.
+fn build_refusal(
+    side: u32,
+    points: &[i64],
+    counts: &[u32],
+    placement: Placement,
+    table: &[i64],
+) -> u32
+    ensures { λ r. ⌜ r ≡ placedRefusal side (now (points .entry)) (now (counts .entry)) placement (now (table .entry)) ⌝ }
 {
     if !is_side(side) {
         return NO_SIDE;
@@ -191,7 +202,10 @@ fn build_refusal(side: u32, points: &[i64], counts: &[u32], table: &[i64]) -> u3
     if points.len() != 2 * edges {
         return NO_POINTS;
     }
-    if !integers::all_within(points, 0, STEPS_PER_PIXEL * side as i64) {
+    if !placement::is_placeable(placement, points) {
+        return NO_PLACEMENT;
+    }
+    if !placement::all_placed_within(placement, points, 0, STEPS_PER_PIXEL * side as i64) {
         return NO_COORDINATE;
     }
     DONE
@@ -247,7 +261,7 @@ fn cell_refusal(side: u32, level: u32, cx: u32, cy: u32, table: &[i64]) -> u32
     DONE
 }
 
-// ---- the four calls
+// ---- the five calls
 
 // Sets every entry to 0.
 fn clear(table: &mut [i64])
@@ -255,6 +269,33 @@ fn clear(table: &mut [i64])
 {
     for i in 0..table.len() {
         table[i] = 0;
+    }
+}
+
+// Builds the table of an outline on a tile, as placed: `points` has x and y of each point in turn, in 1/256 pixel, and `counts` how many points each
+// contour has. The answer is 0 and the edge count; whatever the table held before, it holds the table of the outline as placed afterwards. Or it is the
+// number of the first question that is answered no, and 0, and the table is as it was.
+pub fn build_placed(
+    side: u32,
+    points: &[i64],
+    counts: &[u32],
+    placement: Placement,
+    table: &mut [i64],
+) -> Built
+    ensures { λ r. ⌜ r ≡ placedResult side (now (points .entry)) (now (counts .entry)) placement (now (table .entry)) ⌝ }
+    ensures { λ _. ⌜ now (table .exit) ≡ placedTable side (now (points .entry)) (now (counts .entry)) placement (now (table .entry)) ⌝ }
+    ensures { λ _. ⌜ FaithfulOutline side (placed placement (now (points .entry))) (now (counts .entry)) (placedRefusal side (now (points .entry)) (now (counts .entry)) placement (now (table .entry))) (now (table .exit)) ⌝ }
+    ensures { λ _. ⌜ (now (points .exit) ≡ now (points .entry)) × (now (counts .exit) ≡ now (counts .entry)) ⌝ }
+{
+    let number = build_refusal(side, points, counts, placement, table);
+    if number != DONE {
+        return Built { number, edges: 0 };
+    }
+    clear(table);
+    rasterize::add_outline(table, points, counts, placement, 1, depth_of(side));
+    Built {
+        number: DONE,
+        edges: edges_of(counts) as u32,
     }
 }
 
@@ -267,16 +308,7 @@ pub fn build(side: u32, points: &[i64], counts: &[u32], table: &mut [i64]) -> Bu
     ensures { λ _. ⌜ Faithful side (now (points .entry)) (now (counts .entry)) (now (table .entry)) (now (table .exit)) ⌝ }
     ensures { λ _. ⌜ (now (points .exit) ≡ now (points .entry)) × (now (counts .exit) ≡ now (counts .entry)) ⌝ }
 {
-    let number = build_refusal(side, points, counts, table);
-    if number != DONE {
-        return Built { number, edges: 0 };
-    }
-    clear(table);
-    rasterize::add_outline(table, points, counts, 1, depth_of(side));
-    Built {
-        number: DONE,
-        edges: edges_of(counts) as u32,
-    }
+    build_placed(side, points, counts, Placement::None, table)
 }
 
 // Draws the figures of a level. The answer is 0, and the picture has them row by row, whatever it held before. Or it is the number of the first

@@ -1,11 +1,27 @@
-// The four calls for programs in C or Rust: `include/mattuliyan.h` declares them, and says what its caller owes.
+// The five calls for programs in C or Rust: `include/mattuliyan.h` declares them, and says what its caller owes.
 //
 // A slice is passed as a pointer and a length. A call of `tile` that answers two numbers answers the first, that of the refusal or 0, and writes the
 // second where it is told.
 ghost use mathlib.Core.Path.{_≡_};
 ghost use lib.ListN.{length};
-ghost use Rattle.tile.specs.Outcomes.{buildResult, buildTable, drawRefusal, figuresPicture, greysPicture, cellResult};
-ghost use Rattle.tile.specs.Faithful.{Faithful};
+ghost use Rattle.placement.specs.Placed.{placed};
+ghost use Rattle.tile.specs.Outcomes.{buildResult, buildTable, placedRefusal, placedResult, placedTable, drawRefusal, figuresPicture, greysPicture, cellResult};
+ghost use Rattle.tile.specs.Faithful.{Faithful, FaithfulOutline};
+ghost use Rattle.tile_c.specs.PlacementNumbers.{placementOf};
+use placement::Matrix;
+use placement::Placement;
+
+// How many numbers each placement has.
+const NUMBERS_OF_NONE: usize = 0;
+
+const NUMBERS_OF_SCALE: usize = 1;
+
+const NUMBERS_OF_SHIFT: usize = 2;
+
+const NUMBERS_OF_TURN: usize = 6;
+
+// Past every factor's limit, so that question 12 refuses it.
+const NO_FACTOR: f64 = 4.0;
 
 // `tile::build`: the number, and the edge count into `edges`, 0 where it is refused.
 #[no_mangle]
@@ -25,6 +41,54 @@ pub extern "C" fn mattuliyan_build(
     let built = tile::build(side, points, counts, table);
     *edges = built.edges;
     built.number
+}
+
+// The placement of as many numbers as are there, or one that question 12 refuses.
+fn placement_of(numbers: &[f64]) -> Placement
+    ensures { λ p. ⌜ p ≡ placementOf (now (numbers .entry)) ⌝ }
+{
+    let n = numbers.len();
+    if n == NUMBERS_OF_NONE {
+        return Placement::None;
+    }
+    if n == NUMBERS_OF_SCALE {
+        return Placement::Scale(numbers[0]);
+    }
+    if n == NUMBERS_OF_SHIFT {
+        return Placement::Shift(numbers[0], numbers[1]);
+    }
+    if n == NUMBERS_OF_TURN {
+        return Placement::Turn(Matrix {
+            a: numbers[0],
+            b: numbers[1],
+            c: numbers[2],
+            d: numbers[3],
+            e: numbers[4],
+            f: numbers[5],
+        });
+    }
+    Placement::Scale(NO_FACTOR)
+}
+
+// `tile::build_placed`: the number, and the edge count into `edges`, 0 where it is refused.
+#[no_mangle]
+pub extern "C" fn mattuliyan_build_placed(
+    side: u32,
+    points: &[i64],
+    counts: &[u32],
+    placement: &[f64],
+    table: &mut [i64],
+    edges: &mut u32,
+) -> u32
+    ensures { λ r. ⌜ r ≡ placedResult side (now (points .entry)) (now (counts .entry)) (placementOf (now (placement .entry))) (now (table .entry)) .number ⌝ }
+    ensures { λ _. ⌜ now (edges .exit) ≡ placedResult side (now (points .entry)) (now (counts .entry)) (placementOf (now (placement .entry))) (now (table .entry)) .edges ⌝ }
+    ensures { λ _. ⌜ now (table .exit) ≡ placedTable side (now (points .entry)) (now (counts .entry)) (placementOf (now (placement .entry))) (now (table .entry)) ⌝ }
+    ensures { λ _. ⌜ FaithfulOutline side (placed (placementOf (now (placement .entry))) (now (points .entry))) (now (counts .entry)) (placedRefusal side (now (points .entry)) (now (counts .entry)) (placementOf (now (placement .entry))) (now (table .entry))) (now (table .exit)) ⌝ }
+    ensures { λ _. ⌜ (now (points .exit) ≡ now (points .entry)) × (now (counts .exit) ≡ now (counts .entry)) × (now (placement .exit) ≡ now (placement .entry)) ⌝ }
+{
+    let placed = tile::build_placed(side, points, counts, placement_of(placement), table);
+    *edges = placed.edges;
+    placed.number
 }
 
 // `tile::figures`.

@@ -1,6 +1,12 @@
 -- Edge by edge.
-use mathlib.Core.Path.{_≡_, sym, _∙_, subst}
-use Prim.Native.Nat.{_-_}
+use mathlib.Core.Path.{_≡_, sym, _∙_, ap, subst, subst⁻¹}
+use Prim.Native.Nat.{_-_, _/_, _<_}
+use native.Mathlib.Nat.{le-of-eq, le-trans}
+use lib.ListN.{length}
+use Rattle.placement.specs.Placed.{placed}
+use Rattle.placement.specs.Laws.PlacedPoints.{placed-length}
+use Rattle.rasterize.specs.Contour.{edgeOf}
+use Rattle.rasterize.specs.Laws.Fitting.{fits-le}
 use native.Mathlib.Omega.{arith}
 use mir.Syntax.{w64}
 use mir.Val.{toZ}
@@ -14,23 +20,39 @@ use Rattle.rasterize.proofs.add_contour.Statement.{statement}
 use Rattle.rasterize.proofs.add_contour.Tie as tie
 
 abbrev Inv-loop : tie.InvT-loop
-Inv-loop table₀ points sign depth n k₀ table k = ContourLoop depth (toZ w64 sign) points table₀ table k
+Inv-loop table₀ points placement sign depth n k₀ table k = ContourLoop depth (toZ w64 sign) (placed placement points) table₀ table k
 
 abbrev μ-loop : tie.MeasureT-loop
-μ-loop table₀ points sign depth n k₀ table k = n - k
+μ-loop table₀ points placement sign depth n k₀ table k = n - k
+
+-- placing keeps the number of points
+halves : (s : tie.Start Inv-loop μ-loop) → length (placed (s .args .placement) (s .args .points .now)) / 2 ≡ length (s .args .points .now) / 2
+halves s = ap (λ n. n / 2) (placed-length (s .args .placement) (s .args .points .now))
 
 loop-holds : tie.Need-loop-holds Inv-loop μ-loop
-loop-holds c = contour-start (back (c .args .sign)) (c .pre .0)
+loop-holds c = contour-start (back (c .args .sign)) (fits-le (le-of-eq (halves c)) (c .pre .0))
 
 edge-from-requires : tie.Need-edge-from-requires Inv-loop μ-loop
-edge-from-requires c κs = (c .before .loop-test .taken, omega arith)
+edge-from-requires c κs = (c .before .loop-test .taken, omega arith, c .before .before .before .pre .3)
+
+inside : (i : tie.In-loop Inv-loop μ-loop) → (let a = i .before .before .args in i .before .loop .k < length (placed (a .placement) (a .points .now)) / 2)
+inside i = subst⁻¹ (λ n. i .before .loop .k < n) (halves (i .before .before)) (i .loop-test .taken)
+
+is-edge : (c : tie.After-edge-from Inv-loop μ-loop)
+    → (let i = c .before .before in
+    let l = placed (i .before .before .args .placement) (i .before .before .args .points .now) in
+    c .edge-from .result ≡ edgeOf l (length l / 2) (i .before .loop .k))
+is-edge c =
+    let i = c .before .before in
+    let l = placed (i .before .before .args .placement) (i .before .before .args .points .now) in
+    c .edge-from .ensures ∙ ap (λ n. edgeOf l n (i .before .loop .k)) (sym (halves (i .before .before)))
 
 add-edge-requires : tie.Need-add-edge-requires Inv-loop μ-loop
 add-edge-requires c κs =
     let i = c .before .before in
     let s = i .before .before in (
-      contour-asks (i .before .loop .inv) (i .loop-test .taken),
-      contour-edge (s .args .points .now) (s .pre .1) (i .loop-test .taken) (c .edge-from .ensures),
+      contour-asks (i .before .loop .inv) (inside i),
+      contour-edge (placed (s .args .placement) (s .args .points .now)) (s .pre .1) (inside i) (is-edge c),
       held-within (held-number tt (s .pre .2)),
     )
 
@@ -45,7 +67,7 @@ loop-again c =
     let e = c .before .before in
     let i = e .before .before in
     let s = i .before .before in
-    contour-step (s .args .points .now) (s .pre .1) (i .loop-test .taken) (e .edge-from .ensures) (held-within (held-number tt (s .pre .2))) (i .before .loop .inv)
+    contour-step (placed (s .args .placement) (s .args .points .now)) (s .pre .1) (inside i) (is-edge e) (held-within (held-number tt (s .pre .2))) (i .before .loop .inv)
     (c .before .add-edge .ensures)
 
 same-length : tie.Need-same-length Inv-loop μ-loop
@@ -54,8 +76,8 @@ same-length c = c .before .loop .inv .fits .exact ∙ sym (c .before .before .pr
 returns : tie.Need-returns Inv-loop μ-loop
 returns c =
     let s = c .before .before in
-    subst (λ z. c .before .loop .table ≡ added (s .args .table .now) (edgesPart (s .args .depth) z (contourEdges (pointsOf (s .args .points .now)))))
-    (back-is tt (s .pre .2)) (contour-end (c .before .loop .inv) (c .loop-test .left))
+    subst (λ z. c .before .loop .table ≡ added (s .args .table .now) (edgesPart (s .args .depth) z (contourEdges (pointsOf (placed (s .args .placement) (s .args .points .now))))))
+    (back-is tt (s .pre .2)) (contour-end (c .before .loop .inv) (le-trans (le-of-eq (halves s)) (c .loop-test .left)))
 
 pub add-contour-spec : {M : Type 1} → statement M
 add-contour-spec =

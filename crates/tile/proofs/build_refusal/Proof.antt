@@ -15,7 +15,8 @@ use Rattle.integers.specs.Units.{stepsPerPixel, greatestSide, mostEdges}
 use Rattle.integers.specs.Machine.{known}
 use Rattle.accuracy.specs.Outline.{edgeCount}
 use Rattle.integers.specs.Tests.{every, between}
-use Rattle.tile.specs.Questions.{Question, question6, buildingQuestions}
+use Rattle.placement.specs.Placed.{placed}
+use Rattle.tile.specs.Questions.{Question, question6, placedQuestions}
 use Rattle.tile.specs.Laws.Sides.{side-le}
 use Rattle.tile.proofs.Asking.{After, none-asked, no-at, yes-at, refused, passed}
 use Rattle.tile.proofs.CountsSum.{edges-within, edges-over, capped-within}
@@ -23,7 +24,7 @@ use Rattle.tile.proofs.build_refusal.Statement.{statement}
 use Rattle.tile.proofs.build_refusal.Tie as tie
 
 abbrev questions : tie.Start → List Question
-questions s = buildingQuestions (s .args .side) (s .args .points .now) (s .args .counts .now) (s .args .table .now)
+questions s = placedQuestions (s .args .side) (s .args .points .now) (s .args .counts .now) (s .args .placement) (s .args .table .now)
 
 -- ---- questions 1, 2 and 4
 after-1 : (c : tie.Else1) → After (questions (c .before .before .before)) 1
@@ -80,30 +81,41 @@ after-5 c = yes-at (after-4 (c .before)) (eq-eqb _ _ (c .if5 .left ∙ ap (λ n.
 returns-5 : tie.Need-returns-5
 returns-5 c = no-at (after-4 (c .before)) (ne-eqb _ _ (λ e. c .if5 .taken (e ∙ ap (λ n. 2 * n) (sym (edges-are (c .before))))))
 
--- ---- question 6: the greatest coordinate fits
-module _ (c : tie.Else5) where
-  abbrev side : ℕ
-  side = start (c .before .before) .args .side
-
-  few-pixels : side ≤ greatestSide
-  few-pixels = side-few (c .before .before .before .before .before .before .before)
-
-  limit-is : pos stepsPerPixel *ℤ toZ w64 side ≡ pos (stepsPerPixel * side)
-  limit-is = ap (λ z. pos stepsPerPixel *ℤ z) (toZ-pos w64 (omega (arith, few-pixels)))
-
-  limit-fits : SFits w64 (pos stepsPerPixel *ℤ toZ w64 side)
-  limit-fits = subst⁻¹ (SFits w64) limit-is (record { sfits = omega (arith, few-pixels) })
-
-asked-6 : (c : tie.After-all-within) → c .all-within .result ≡ question6 (side (c .before)) (start (c .before .before .before) .args .points .now) .answer
-asked-6 c =
-    let points = start (c .before .before .before) .args .points .now in
-    c .all-within .ensures ∙ ap (λ high. every (between (pos 0) high) points) (known (limit-fits (c .before)) (limit-is (c .before)))
+-- ---- question 12
+after-6 : (c : tie.Else6) → After (questions (start (c .before .before .before .before))) 6
+after-6 c = passed (after-5 (c .before .before)) (c .before .is-placeable .ensures) (c .if6 .left)
 
 returns-6 : tie.Need-returns-6
-returns-6 c = refused (after-5 (c .before .before)) (asked-6 (c .before)) (c .if6 .taken)
+returns-6 c = refused (after-5 (c .before .before)) (c .before .is-placeable .ensures) (c .if6 .taken)
+
+-- ---- question 6, of the placed points: the greatest coordinate fits
+module _ (c : tie.Else6) where
+  abbrev at : tie.Start
+  at = start (c .before .before .before .before)
+
+  few-pixels : at .args .side ≤ greatestSide
+  few-pixels = side-few (c .before .before .before .before .before .before .before .before .before)
+
+  limit-is : pos stepsPerPixel *ℤ toZ w64 (at .args .side) ≡ pos (stepsPerPixel * at .args .side)
+  limit-is = ap (λ z. pos stepsPerPixel *ℤ z) (toZ-pos w64 (omega (arith, few-pixels)))
+
+  limit-fits : SFits w64 (pos stepsPerPixel *ℤ toZ w64 (at .args .side))
+  limit-fits = subst⁻¹ (SFits w64) limit-is (record { sfits = omega (arith, few-pixels) })
+
+all-placed-within-requires : tie.Need-all-placed-within-requires
+all-placed-within-requires c κs = (omega (arith, c .before .before .if5 .left), sym (c .before .is-placeable .ensures) ∙ not-false _ (c .if6 .left))
+
+asked-6 : (c : tie.After-all-placed-within)
+    → c .all-placed-within .result ≡ question6 (at (c .before) .args .side) (placed (at (c .before) .args .placement) (at (c .before) .args .points .now)) .answer
+asked-6 c =
+    let l = placed (at (c .before) .args .placement) (at (c .before) .args .points .now) in
+    c .all-placed-within .ensures ∙ ap (λ high. every (between (pos 0) high) l) (known (limit-fits (c .before)) (limit-is (c .before)))
 
 returns-7 : tie.Need-returns-7
-returns-7 c = sym (passed (after-5 (c .before .before)) (asked-6 (c .before)) (c .if6 .left) .same)
+returns-7 c = refused (after-6 (c .before .before)) (asked-6 (c .before)) (c .if7 .taken)
+
+returns-8 : tie.Need-returns-8
+returns-8 c = sym (passed (after-6 (c .before .before)) (asked-6 (c .before)) (c .if7 .left) .same)
 
 pub build-refusal-spec : {M : Type 1} → statement M
 build-refusal-spec =
@@ -119,8 +131,10 @@ build-refusal-spec =
     returns-4
     (λ c. search needs)
     returns-5
-    (λ c. search needs)
-    limit-fits
     (λ c κs. search needs)
     returns-6
-    returns-7)
+    (λ c. search needs)
+    limit-fits
+    all-placed-within-requires
+    returns-7
+    returns-8)

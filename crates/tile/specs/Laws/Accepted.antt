@@ -2,6 +2,7 @@
 --
 -- Main results
 --   Accepted, accepted               what the answers say of the side, the table and the outline
+--   placed-accepted                  and, with a placement, of the outline as placed
 --   accepted-count                   its edges are as many as the counts' sum
 --   AcceptedEdges, accepted-edges    and so no more than the most, and what is drawn of their table is near their exact areas
 use mathlib.Core.Path.{_≡_, _∙_, ap, subst}
@@ -14,14 +15,17 @@ use lib.Signed.{_≤ℤ_}
 use Rattle.integers.specs.Units.{stepsPerPixel, mostEdges}
 use Rattle.integers.specs.ListSum.{All}
 use Rattle.edge.specs.declared.Edge.{Edge}
+use Rattle.placement.specs.declared.Placement.{Placement}
+use Rattle.placement.specs.Placed.{placed}
+use Rattle.placement.specs.Laws.PlacedPoints.{placed-length}
 use Rattle.accuracy.specs.Outline.{contoursOf, edgeCount}
 use Rattle.accuracy.specs.Tile.{cellWidth}
 use Rattle.accuracy.specs.Accurate.{Accurate}
 use Rattle.accuracy.specs.Theorem.{outline-accurate}
 use Rattle.accuracy.specs.Laws.Coordinates.{contoursOf-count, OnSide, contoursOf-on-tile}
-use Rattle.tile.specs.Questions.{Yes, depthOf, question1}
-use Rattle.tile.specs.Outcomes.{edgesOf, buildRefusal}
-use Rattle.tile.specs.Refusals.{building-refusals, question2-means, question3-means, question5-means, question6-means}
+use Rattle.tile.specs.Questions.{Yes, depthOf, question1, question2, question3, question5, question6}
+use Rattle.tile.specs.Outcomes.{edgesOf, buildRefusal, placedRefusal}
+use Rattle.tile.specs.Refusals.{building-refusals, placed-refusals, question2-means, question3-means, question5-means, question6-means}
 use Rattle.tile.specs.Laws.Sides.{side-power}
 
 pub record Accepted (side : ℕ) (points : List ℤ) (counts : List ℕ) (table : List ℤ) : Type 0 where
@@ -37,18 +41,30 @@ tile-width side y =
     let whole : depthOf side ≡ depthOf side - 0 = omega arith in
     ap (λ s. stepsPerPixel * s) (side-power side y) ∙ ap (λ k. stepsPerPixel * 2 ^ k) whole
 
+-- from the answers to the questions that every kind of outline is asked, question 6's of the points that are drawn
+accepted-by : (side : ℕ) (points : List ℤ) (counts : List ℕ) (table : List ℤ) → Yes (question1 side) → Yes (question2 side table) → Yes (question5 counts)
+    → length points ≡ 2 * edgeCount counts → Yes (question6 side points) → Accepted side points counts table
+accepted-by side points counts table yes1 yes2 yes5 enough yes6 = record {
+  is-side = yes1;
+  table-length = question2-means side table .0 yes2;
+  few-edges = question5-means counts .0 yes5;
+  points-length = enough;
+  on-tile = subst (λ (w : ℕ). All (λ z. (pos 0 ≤ℤ z) × (z ≤ℤ pos w)) points) (tile-width side yes1) (question6-means side points .0 yes6);
+}
+
 pub accepted : (side : ℕ) (points : List ℤ) (counts : List ℕ) (table : List ℤ) → buildRefusal side points counts table ≡ 0
     → Accepted side points counts table
 accepted side points counts table done =
     let yes = building-refusals side points counts table .accepted .0 done in
-    record {
-      is-side = yes .0;
-      table-length = question2-means side table .0 (yes .1 .0);
-      few-edges = question5-means counts .0 (yes .1 .1 .1 .0);
-      points-length = question3-means points counts .0 (yes .1 .1 .1 .1 .0);
-      on-tile = subst (λ (w : ℕ). All (λ z. (pos 0 ≤ℤ z) × (z ≤ℤ pos w)) points) (tile-width side (yes .0))
-          (question6-means side points .0 (yes .1 .1 .1 .1 .1 .0));
-    }
+    accepted-by side points counts table (yes .0) (yes .1 .0) (yes .1 .1 .1 .0) (question3-means points counts .0 (yes .1 .1 .1 .1 .0))
+    (yes .1 .1 .1 .1 .1 .0)
+
+pub placed-accepted : (side : ℕ) (points : List ℤ) (counts : List ℕ) (placement : Placement) (table : List ℤ)
+    → placedRefusal side points counts placement table ≡ 0 → Accepted side (placed placement points) counts table
+placed-accepted side points counts placement table done =
+    let yes = placed-refusals side points counts placement table .accepted .0 done in
+    accepted-by side (placed placement points) counts table (yes .0) (yes .1 .0) (yes .1 .1 .1 .0)
+    (placed-length placement points ∙ question3-means points counts .0 (yes .1 .1 .1 .1 .0)) (yes .1 .1 .1 .1 .1 .1 .0)
 
 -- Edges whose table can be drawn as promised, whatever kind of outline they are of. (Question 4 is none of it: an outline's edges are accepted, however
 -- they were counted.)

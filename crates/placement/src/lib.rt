@@ -1,0 +1,224 @@
+// The placement of an outline's points by 64-bit floats.
+ghost use mathlib.Core.Path.{_≡_};
+ghost use mathlib.Core.Bool.{true, _&&_};
+ghost use mathlib.Core.List.{[], _∷_};
+ghost use Prim.Native.Nat.{_+_, _*_, _%_, _<_, _≤_};
+ghost use lib.ListN.{length, getD};
+ghost use lib.IntN.{pos};
+ghost use Rattle.integers.specs.Units.{partsPerStep, factorLimit, offsetLimit, placedLimit};
+ghost use Rattle.integers.specs.Tests.{every, between};
+ghost use Rattle.placement.specs.Parts.{Value, partsOf, isMultiple, nearest};
+ghost use Rattle.placement.specs.Placed.{partsAt, acrossOf, downOf, placed, isMoving, rowUsable, floatsUsable, placeable};
+ghost use Rattle.placement.specs.Ready.{Ready};
+
+// Parts to a step.
+const PARTS_PER_STEP: f64 = 65536.0;
+
+// 2 to this power is that many parts.
+const PART_BITS: i64 = 16;
+
+// Half a step, in parts.
+const HALF_STEP: i64 = 32768;
+
+// How far factors and offsets may lie from 0.
+const FACTOR_LIMIT: u64 = 2;
+
+const OFFSET_LIMIT: u64 = 16384;
+
+// Points to be moved lie from -32,768 to 32,767.
+const MOVABLE_LIMIT: i64 = 32768;
+
+// The six numbers of a turn, which takes (x, y) to a * x + b * y + c and d * x + e * y + f.
+pub struct Matrix {
+    pub a: f64,
+    pub b: f64,
+    pub c: f64,
+    pub d: f64,
+    pub e: f64,
+    pub f: f64,
+}
+
+// What is done to an outline before it is drawn.
+pub enum Placement {
+    None,
+    Shift(f64, f64),
+    Scale(f64),
+    Turn(Matrix),
+}
+
+pub struct Point {
+    pub x: i64,
+    pub y: i64,
+}
+
+// ---- question 12
+
+// Is x a multiple of 1/65,536 from -limit to limit?
+fn is_multiple(x: f64, limit: u64) -> bool
+    requires { ⌜ limit ≤ offsetLimit ⌝ }
+    ensures { λ b. ⌜ b ≡ isMultiple limit x ⌝ }
+{
+    let bound = limit as f64;
+    if -bound <= x {
+        if x <= bound {
+            let parts = x * PARTS_PER_STEP;
+            let whole = std::num::truncating_f64_to_i64(parts);
+            return parts == (whole as f64);
+        }
+    }
+    false
+}
+
+fn is_factor(x: f64) -> bool
+    ensures { λ b. ⌜ b ≡ isMultiple factorLimit x ⌝ }
+{
+    is_multiple(x, FACTOR_LIMIT)
+}
+
+fn is_offset(x: f64) -> bool
+    ensures { λ b. ⌜ b ≡ isMultiple offsetLimit x ⌝ }
+{
+    is_multiple(x, OFFSET_LIMIT)
+}
+
+// Two factors and an offset?
+fn is_row(a: f64, b: f64, c: f64) -> bool
+    ensures { λ r. ⌜ r ≡ rowUsable a b c ⌝ }
+{
+    is_factor(a) && (is_factor(b) && is_offset(c))
+}
+
+fn are_floats_usable(p: Placement) -> bool
+    ensures { λ b. ⌜ b ≡ floatsUsable p ⌝ }
+{
+    match p {
+        Placement::None => true,
+        Placement::Shift(u, v) => is_offset(u) && is_offset(v),
+        Placement::Scale(s) => is_factor(s),
+        Placement::Turn(m) => is_row(m.a, m.b, m.c) && is_row(m.d, m.e, m.f),
+    }
+}
+
+fn is_moving(p: Placement) -> bool
+    ensures { λ b. ⌜ b ≡ isMoving p ⌝ }
+{
+    match p {
+        Placement::None => false,
+        Placement::Shift(_, _) => true,
+        Placement::Scale(_) => true,
+        Placement::Turn(_) => true,
+    }
+}
+
+// Question 12: are the floats as they must be, and the points to be moved in reach?
+pub fn is_placeable(p: Placement, points: &[i64]) -> bool
+    ensures { λ b. ⌜ b ≡ placeable p (now (points .entry)) ⌝ }
+{
+    if !is_moving(p) {
+        return true;
+    }
+    are_floats_usable(p) && integers::all_within(points, -MOVABLE_LIMIT, MOVABLE_LIMIT - 1)
+}
+
+// ---- a point as placed
+
+// a * x + b * y + c, each product and each sum exact.
+fn turned(a: f64, b: f64, c: f64, x: i64, y: i64) -> f64
+    requires { ⌜ Ready a b c x y ⌝ }
+    ensures { λ v. ⌜ Value v (partsAt a b c x y) partsPerStep ⌝ }
+{
+    a * (x as f64) + b * (y as f64) + c
+}
+
+// v to the nearest step, halves towards the larger.
+fn nearest_step(v: f64) -> i64
+    requires { ⌜ isMultiple placedLimit v ≡ true ⌝ }
+    ensures { λ z. ⌜ z ≡ nearest (partsOf v) ⌝ }
+{
+    let parts = std::num::truncating_f64_to_i64(v * PARTS_PER_STEP);
+    (parts + HALF_STEP) >> PART_BITS
+}
+
+fn coordinate(a: f64, b: f64, c: f64, x: i64, y: i64) -> i64
+    requires { ⌜ Ready a b c x y ⌝ }
+    ensures { λ z. ⌜ z ≡ nearest (partsAt a b c x y) ⌝ }
+{
+    nearest_step(turned(a, b, c, x, y))
+}
+
+fn turned_point(m: Matrix, x: i64, y: i64) -> Point
+    requires { ⌜ Ready (m .a) (m .b) (m .c) x y × Ready (m .d) (m .e) (m .f) x y ⌝ }
+    ensures { λ q. ⌜ (q .x ≡ nearest (partsAt (m .a) (m .b) (m .c) x y)) × (q .y ≡ nearest (partsAt (m .d) (m .e) (m .f) x y)) ⌝ }
+{
+    Point {
+        x: coordinate(m.a, m.b, m.c, x, y),
+        y: coordinate(m.d, m.e, m.f, x, y),
+    }
+}
+
+// Where a point goes. A shift and a scale are turns whose other numbers are 1 and 0.
+fn moved(p: Placement, x: i64, y: i64) -> Point
+    requires { ⌜ placeable p (x ∷ y ∷ []) ≡ true ⌝ }
+    ensures { λ q. ⌜ (q .x ≡ acrossOf p x y) × (q .y ≡ downOf p x y) ⌝ }
+{
+    match p {
+        Placement::None => Point { x, y },
+        Placement::Shift(u, v) => turned_point(
+            Matrix {
+                a: 1.0,
+                b: 0.0,
+                c: u,
+                d: 0.0,
+                e: 1.0,
+                f: v,
+            },
+            x,
+            y,
+        ),
+        Placement::Scale(s) => turned_point(
+            Matrix {
+                a: s,
+                b: 0.0,
+                c: 0.0,
+                d: 0.0,
+                e: s,
+                f: 0.0,
+            },
+            x,
+            y,
+        ),
+        Placement::Turn(m) => turned_point(m, x, y),
+    }
+}
+
+// Point k of an outline, as placed.
+pub fn point_at(p: Placement, points: &[i64], k: usize) -> Point
+    requires { ⌜ (2 * k + 1 < length (now points)) × (placeable p (now points) ≡ true) ⌝ }
+    ensures { λ q. ⌜ (q .x ≡ getD (placed p (now (points .entry))) (2 * k) (pos 0)) × (q .y ≡ getD (placed p (now (points .entry))) (2 * k + 1) (pos 0)) ⌝ }
+{
+    moved(p, points[2 * k], points[2 * k + 1])
+}
+
+// ---- question 6, which is decided on the placed points
+
+fn is_point_within(q: Point, low: i64, high: i64) -> bool
+    ensures { λ b. ⌜ b ≡ (between low high (q .x) && between low high (q .y)) ⌝ }
+{
+    integers::is_within(q.x, low, high) && integers::is_within(q.y, low, high)
+}
+
+// Is every coordinate of the placed points from low to high?
+pub fn all_placed_within(p: Placement, points: &[i64], low: i64, high: i64) -> bool
+    requires { ⌜ (length (now points) % 2 ≡ 0) × (placeable p (now points) ≡ true) ⌝ }
+    ensures { λ b. ⌜ b ≡ every (between low high) (placed p (now (points .entry))) ⌝ }
+{
+    let n = points.len() / 2;
+    let mut k = 0;
+    while k < n {
+        if !is_point_within(point_at(p, points, k), low, high) {
+            return false;
+        }
+        k += 1;
+    }
+    true
+}
