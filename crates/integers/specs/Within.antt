@@ -5,16 +5,17 @@
 --   within-le, within-is, within-self, within-zero                   a larger bound, an equal one, a number's own, any bound of 0
 --   within-sign                                                      of a number times 1 or −1
 --   within-of-abs, abs-of-within, scaled-abs-of-within               the same as |x| ≤ b, or k |x| ≤ b
+--   within-of-natAbs, natAbs-of-within                               the same as |x| ≤ b, of natural numbers
 --   zero-of-within                                                   within 0 is 0
 --   bounds                                                           as facts for `lin≤`
 use mathlib.Core.Path.{_≡_, refl, sym, subst, subst₂}
 use mathlib.Core.List.{[], _∷_}
 use mathlib.Core.Logic.{_⊎_, inl, inr}
-use Prim.Native.Nat.{ℕ}
-use lib.IntN.{ℤ, pos, negsuc, negℤ, _+ℤ_, _-ℤ_, _*ℤ_}
+use Prim.Native.Nat.{ℕ, _≤_}
+use lib.IntN.{ℤ, pos, negsuc, negℤ, natAbs, _+ℤ_, _-ℤ_, _*ℤ_}
 use lib.Signed.{_≤ℤ_}
 use Rattle.integers.specs.Ring.{read, comb, _⊗_}
-use Rattle.integers.specs.Order.{≤ℤ-mul, nonneg}
+use Rattle.integers.specs.Order.{≤ℤ-mul, nonneg, pos-≤ℤ, ≤-of-pos}
 use Rattle.integers.specs.Linear.{end, more, Facts, le, _&_, linear, lin≤, lin≡}
 use Rattle.integers.specs.Magnitude.{abs, abs-mul, abs-le, le-abs, neg-le-abs}
 
@@ -82,6 +83,14 @@ within-of-abs {b} {x} h = record {
 
 pub abs-of-within : {b x : ℤ} → Within b x → abs x ≤ℤ b
 abs-of-within {b} {x} w = abs-le (w .high) (lin≤ (b ∷ x ∷ []) (le (w .low)) (search linear depth 40) tt)
+
+pub within-of-natAbs : {b : ℕ} {x : ℤ} → natAbs x ≤ b → Within (pos b) x
+unfolding abs
+within-of-natAbs h = within-of-abs (pos-≤ℤ h)
+
+pub natAbs-of-within : {b : ℕ} {x : ℤ} → Within (pos b) x → natAbs x ≤ b
+unfolding abs
+natAbs-of-within w = ≤-of-pos (abs-of-within w)
 
 pub scaled-abs-of-within : {b : ℤ} (k : ℕ) (x : ℤ) → Within b (pos k *ℤ x) → (pos k *ℤ abs x) ≤ℤ b
 unfolding abs

@@ -6,7 +6,7 @@ pub mod ExactArithmetic
 pub mod PartsOf
 pub mod Comparisons
 pub mod WholeFloats
--- a float times 65,536: of a multiple, and of any float that is tested
+-- a float in parts; and the test of a float
 pub mod InParts
 pub mod TestedFloats
 -- a × x + b × y + c: how large it gets

@@ -6,6 +6,8 @@
 --   partsOf x                 how many parts x is, cut toward zero
 --   isMultiple limit x        is x a multiple of 1/65,536 from −limit to limit?
 --   Multiple limit x          it is (`Multiples` has that the test says so)
+--   Inside limit x            x is finite, and from −limit to limit
+--   InParts x w               the float w is x × 65,536, exactly
 --   nearest k                 k parts to the nearest whole number, halves towards the larger
 --   perStep, one, nought      65,536, 1 and 0 as floats, which the code writes
 use mathlib.Core.Path.{_≡_}
@@ -45,6 +47,15 @@ pub record Multiple (limit : ℕ) (x : Float) : Type 0 where
   pub parts : ℤ
   pub value : Value x parts partsPerStep
   pub bound : natAbs parts ≤ limit * partsPerStep
+
+abbrev pub Inside : ℕ → Float → Type 0
+Inside limit nan = ⊥
+Inside limit (inf s) = ⊥
+Inside limit (fin s m e) = m * up e ≤ limit * down e
+
+-- whatever fraction x is
+pub record InParts (x w : Float) : Type 0 where
+  pub exact : (k : ℤ) (d : ℕ) → Value x k d → Value w (k *ℤ pos partsPerStep) d
 
 -- "rounded to the nearest step, halves towards the larger": the rounding of a grey
 abbrev pub nearest : ℤ → ℤ

@@ -1,4 +1,14 @@
-// The placement of an outline's points by 64-bit floats.
+// The placement of an outline's points by 64-bit floats: none, a shift, a scale or a turn.
+//
+// A part is 1/65,536 of a step. Every float that is handed in is a whole number of parts: at most 2^17 of them for a factor, 2^30 for an offset. A
+// coordinate is a whole number of steps, at most 2^15. So, in parts, a product of the two is at most 2^32, and a × x + b × y + c stays below 2^34. A
+// float keeps 53 binary digits, so that it holds every such number of parts as it is, and no product and no sum is rounded.
+//
+// The result is rounded without floats. In parts, that is times 65,536, it is a whole number, and is cast to one. Half a step is added and the bits
+// of the parts are shifted out. The shift rounds down, below zero too, so that halves go towards the larger.
+//
+// A float is a multiple of 1/65,536 where it is, in parts, equal to its own whole part. Its range is tested before that, so that the whole part fits 64
+// bits; a not-a-number fails both comparisons, and an infinity one of them. (A remainder would be shorter, but `%` on floats is a call of C's `fmod`.)
 ghost use mathlib.Core.Path.{_≡_};
 ghost use mathlib.Core.Bool.{true, _&&_};
 ghost use mathlib.Core.List.{[], _∷_};
@@ -7,28 +17,29 @@ ghost use lib.ListN.{length, getD};
 ghost use lib.IntN.{pos};
 ghost use Rattle.integers.specs.Units.{partsPerStep, factorLimit, offsetLimit, placedLimit};
 ghost use Rattle.integers.specs.Tests.{every, between};
-ghost use Rattle.placement.specs.Parts.{Value, partsOf, isMultiple, nearest};
+ghost use Rattle.placement.specs.Parts.{Value, partsOf, isMultiple, Inside, InParts, nearest};
 ghost use Rattle.placement.specs.Placed.{partsAt, acrossOf, downOf, placed, isMoving, rowUsable, floatsUsable, placeable};
 ghost use Rattle.placement.specs.Ready.{Ready};
 
-// Parts to a step.
+// Parts to a step, as a float: a power of two, so that a product with it is exact.
 const PARTS_PER_STEP: f64 = 65536.0;
 
-// 2 to this power is that many parts.
+// The same as a shift.
 const PART_BITS: i64 = 16;
 
-// Half a step, in parts.
+// Half as many, which is added before the shift.
 const HALF_STEP: i64 = 32768;
 
-// How far factors and offsets may lie from 0.
+// Factors are from -2 to 2: a sheet is straightened, and at most doubled in size.
 const FACTOR_LIMIT: u64 = 2;
 
+// Offsets are from -16,384 to 16,384, the width of the largest tile either way.
 const OFFSET_LIMIT: u64 = 16384;
 
-// Points to be moved lie from -32,768 to 32,767.
+// Points to be moved are from -32,768 to 32,767, the whole numbers of 16 bits.
 const MOVABLE_LIMIT: i64 = 32768;
 
-// The six numbers of a turn, which takes (x, y) to a * x + b * y + c and d * x + e * y + f.
+// The six numbers of a turn, which takes (x, y) to a × x + b × y + c and d × x + e × y + f.
 pub struct Matrix {
     pub a: f64,
     pub b: f64,
@@ -51,6 +62,14 @@ pub struct Point {
     pub y: i64,
 }
 
+// x in parts. The product is exact, whatever x is.
+fn in_parts(x: f64) -> f64
+    requires { ⌜ Inside placedLimit x ⌝ }
+    ensures { λ w. ⌜ InParts x w ⌝ }
+{
+    x * PARTS_PER_STEP
+}
+
 // ---- question 12
 
 // Is x a multiple of 1/65,536 from -limit to limit?
@@ -61,7 +80,7 @@ fn is_multiple(x: f64, limit: u64) -> bool
     let bound = limit as f64;
     if -bound <= x {
         if x <= bound {
-            let parts = x * PARTS_PER_STEP;
+            let parts = in_parts(x);
             let whole = std::num::truncating_f64_to_i64(parts);
             return parts == (whole as f64);
         }
@@ -69,25 +88,28 @@ fn is_multiple(x: f64, limit: u64) -> bool
     false
 }
 
+// May x be one of a, b, d and e, or a scale?
 fn is_factor(x: f64) -> bool
     ensures { λ b. ⌜ b ≡ isMultiple factorLimit x ⌝ }
 {
     is_multiple(x, FACTOR_LIMIT)
 }
 
+// May x be c or f, or one of a shift's two?
 fn is_offset(x: f64) -> bool
     ensures { λ b. ⌜ b ≡ isMultiple offsetLimit x ⌝ }
 {
     is_multiple(x, OFFSET_LIMIT)
 }
 
-// Two factors and an offset?
+// May a, b and c be a row of a turn?
 fn is_row(a: f64, b: f64, c: f64) -> bool
     ensures { λ r. ⌜ r ≡ rowUsable a b c ⌝ }
 {
     is_factor(a) && (is_factor(b) && is_offset(c))
 }
 
+// Is every float of a placement a multiple of 1/65,536 in its range?
 fn are_floats_usable(p: Placement) -> bool
     ensures { λ b. ⌜ b ≡ floatsUsable p ⌝ }
 {
@@ -99,6 +121,7 @@ fn are_floats_usable(p: Placement) -> bool
     }
 }
 
+// Does the placement move points? With none, points may lie anywhere.
 fn is_moving(p: Placement) -> bool
     ensures { λ b. ⌜ b ≡ isMoving p ⌝ }
 {
@@ -122,7 +145,7 @@ pub fn is_placeable(p: Placement, points: &[i64]) -> bool
 
 // ---- a point as placed
 
-// a * x + b * y + c, each product and each sum exact.
+// a × x + b × y + c. Each product and each sum is exact.
 fn turned(a: f64, b: f64, c: f64, x: i64, y: i64) -> f64
     requires { ⌜ Ready a b c x y ⌝ }
     ensures { λ v. ⌜ Value v (partsAt a b c x y) partsPerStep ⌝ }
@@ -135,10 +158,11 @@ fn nearest_step(v: f64) -> i64
     requires { ⌜ isMultiple placedLimit v ≡ true ⌝ }
     ensures { λ z. ⌜ z ≡ nearest (partsOf v) ⌝ }
 {
-    let parts = std::num::truncating_f64_to_i64(v * PARTS_PER_STEP);
+    let parts = std::num::truncating_f64_to_i64(in_parts(v));
     (parts + HALF_STEP) >> PART_BITS
 }
 
+// One coordinate of a turned point.
 fn coordinate(a: f64, b: f64, c: f64, x: i64, y: i64) -> i64
     requires { ⌜ Ready a b c x y ⌝ }
     ensures { λ z. ⌜ z ≡ nearest (partsAt a b c x y) ⌝ }
@@ -146,6 +170,7 @@ fn coordinate(a: f64, b: f64, c: f64, x: i64, y: i64) -> i64
     nearest_step(turned(a, b, c, x, y))
 }
 
+// Both.
 fn turned_point(m: Matrix, x: i64, y: i64) -> Point
     requires { ⌜ Ready (m .a) (m .b) (m .c) x y × Ready (m .d) (m .e) (m .f) x y ⌝ }
     ensures { λ q. ⌜ (q .x ≡ nearest (partsAt (m .a) (m .b) (m .c) x y)) × (q .y ≡ nearest (partsAt (m .d) (m .e) (m .f) x y)) ⌝ }
@@ -201,6 +226,7 @@ pub fn point_at(p: Placement, points: &[i64], k: usize) -> Point
 
 // ---- question 6, which is decided on the placed points
 
+// Are both coordinates of a point from low to high?
 fn is_point_within(q: Point, low: i64, high: i64) -> bool
     ensures { λ b. ⌜ b ≡ (between low high (q .x) && between low high (q .y)) ⌝ }
 {

@@ -32,6 +32,7 @@ use Rattle.haar.specs.Greys.{greyOf}
 use Rattle.haar.specs.Plane.{figureIn, pictureIn}
 use Rattle.placement.specs.declared.Placement.{Placement}
 use Rattle.placement.specs.Placed.{placed}
+use Rattle.placement.specs.Placeable.{Placeable, placeable-means}
 use Rattle.accuracy.specs.Outline.{edgeCount}
 use Rattle.tile.specs.Questions.{Yes, No, DecidedBy, depthOf, question1, question2, question3, question4, question5, question6, question7, question8, question9, question10, question12}
 use Rattle.tile.specs.Questions.{buildingQuestions, placedQuestions, drawingQuestions, cellQuestions}
@@ -245,3 +246,8 @@ question9-means table =
 -- "Are both cell numbers below 2^level?"
 pub question10-means : (level cx cy : ℕ) → Yes (question10 level cx cy) ↔ ((cx < 2 ^ level) × (cy < 2 ^ level))
 question10-means level cx cy = and-means (ltb cx (2 ^ level)) (ltb cy (2 ^ level)) (ltb-means cx (2 ^ level)) (ltb-means cy (2 ^ level))
+
+-- "Every float handed in must be a multiple of 1/65,536; factors (a, b, d, e) lie from −2 to 2, offsets (c, f and a shift's two) from −16,384 to 16,384.
+-- Points to be moved lie from −32,768 to 32,767 before it."
+pub question12-means : (placement : Placement) (points : List ℤ) → Yes (question12 placement points) ↔ Placeable placement points
+question12-means placement points = placeable-means placement points

@@ -1,5 +1,5 @@
 -- Each arm that moves is a turn: a shift's and a scale's other numbers are 1 and 0.
-use mathlib.Core.Path.{_≡_, sym, ap, ap₂, _∙_, subst}
+use mathlib.Core.Path.{_≡_, sym, ap, _∙_, subst}
 use mathlib.Core.Bool.{true}
 use mathlib.Core.List.{[], _∷_}
 use lib.IntN.{ℤ}
@@ -10,7 +10,7 @@ use Rattle.integers.specs.Bits.{back}
 use Rattle.placement.specs.Parts.{nearest, one, nought}
 use Rattle.placement.specs.Placed.{partsAt, acrossOf, downOf, placeable}
 use Rattle.placement.specs.Ready.{Ready}
-use Rattle.placement.specs.Laws.Turns.{turn-ready, shift-ready, scale-ready, ready-at, shift-x, shift-y, scale-x, scale-y}
+use Rattle.placement.specs.Laws.Turns.{turn-ready, shift-ready, scale-ready, ready-at, nearest-at, shift-x, shift-y, scale-x, scale-y}
 use Rattle.placement.specs.declared.Placement.{Placement}
 use Rattle.placement.specs.declared.Placement.the-variants.{Shift, Scale, Turn}
 use Rattle.placement.proofs.moved.Statement.{statement}
@@ -33,7 +33,7 @@ module _ (s : tie.Start) where
 
   -- a row's answer at the point as it is held, and as it was given
   given : (a b c : Float) → nearest (partsAt a b c (back x) (back y)) ≡ nearest (partsAt a b c x y)
-  given a b c = ap₂ (λ x y. nearest (partsAt a b c x y)) (toZ-ofZ (s .fits .x)) (toZ-ofZ (s .fits .y))
+  given a b c = nearest-at a b c (toZ-ofZ (s .fits .x)) (toZ-ofZ (s .fits .y))
 
   -- back to the placement of the call
   across : (p : Placement) → s .args .p ≡ p → acrossOf p x y ≡ acrossOf (s .args .p) x y

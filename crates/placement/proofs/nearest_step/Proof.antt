@@ -1,21 +1,22 @@
 -- v × 65,536 is exact and whole, so it is cut to the number of its parts; half a step is added, and the sum shifted.
-use mathlib.Core.Path.{_≡_, sym, ap, _∙_, subst}
+use mathlib.Core.Path.{_≡_, _∙_, subst⁻¹}
+use mathlib.Core.List.{[], _∷_}
 use Prim.Native.Nat.{_*_, _^_, _≤_}
 use native.Mathlib.Nat.{le-trans}
 use lib.Dec.{lit≤}
-use lib.IntN.{ℤ, natAbs, _+ℤ_}
-use lib.Signed.{shrZ}
-use lib.Ieee.{Float, binary64, ofBits, mul}
-use mir.Syntax.{w64}
-use mir.Val.{SFits, toZ, ofZ}
-use Rattle.integers.specs.Bits.{result-is}
+use lib.IntN.{pos, natAbs}
+use lib.Ieee.{Float}
+use Rattle.integers.specs.Ring.{read, comb}
+use Rattle.integers.specs.Machine.{machine, linfits}
+use Rattle.integers.specs.Within.{Within, bounds, within-of-natAbs}
+use Rattle.integers.specs.Bits.{back, result-is}
 use Rattle.integers.specs.Units.{partsPerStep, placedLimit}
-use Rattle.placement.specs.Parts.{Value, partsOf, perStep}
-use Rattle.placement.specs.Laws.PartsOf.{multiple-value, multiple-bound}
+use Rattle.placement.specs.Parts.{Value, partsOf}
+use Rattle.placement.specs.Laws.PartsOf.{multiple-value, multiple-inside, multiple-bound}
 use Rattle.placement.specs.Laws.Comparisons.{inside-above, inside-below}
 use Rattle.placement.specs.Laws.WholeFloats.{whole-inside, cut-whole}
-use Rattle.placement.specs.Laws.InParts.{in-parts}
-use Rattle.placement.specs.Laws.NearestStep.{half, half-added, shifted}
+use Rattle.placement.specs.Laws.InParts.{whole-parts}
+use Rattle.placement.specs.Laws.NearestStep.{shifted}
 use Rattle.placement.proofs.nearest_step.Statement.{statement}
 use Rattle.placement.proofs.nearest_step.Tie as tie
 
@@ -29,27 +30,35 @@ module _ (s : tie.Start) where
   small : natAbs (partsOf v) ≤ 2 ^ 62
   small = le-trans bound (lit≤ tt)
 
-  whole : Value (mul binary64 v perStep) (partsOf v) 1
-  whole = in-parts v (partsOf v) (multiple-value placedLimit v (s .pre)) bound
+in-parts-requires : tie.Need-in-parts-requires
+in-parts-requires c κs = multiple-inside placedLimit (v c) (c .pre)
+
+whole : (c : tie.After-in-parts) → Value (c .in-parts .result) (partsOf (v (c .before))) 1
+whole c =
+    let x = v (c .before) in
+    whole-parts (c .in-parts .result) (partsOf x) (c .in-parts .ensures .exact (partsOf x) partsPerStep (multiple-value placedLimit x (c .before .pre)))
 
 truncating-f64-to-i64-requires : tie.Need-truncating-f64-to-i64-requires
-unfolding ofBits
 truncating-f64-to-i64-requires c κs =
-    let i = whole-inside (2 ^ 62) (mul binary64 (v c) perStep) (partsOf (v c)) (whole c) (small c) in
+    let i = whole-inside (2 ^ 62) (c .in-parts .result) (partsOf (v (c .before))) (whole c) (small (c .before)) in
     (inside-above _ i, inside-below _ i)
 
-cut-is : (c : tie.After-truncating-f64-to-i64) → toZ w64 (ofZ w64 (c .truncating-f64-to-i64 .result)) ≡ partsOf (v (c .before))
-unfolding ofBits
+cut-is : (c : tie.After-truncating-f64-to-i64) → back (c .truncating-f64-to-i64 .result) ≡ partsOf (v (c .before .before))
 cut-is c =
-    let s = c .before in
-    result-is (c .truncating-f64-to-i64 .ok) (c .truncating-f64-to-i64 .ensures ∙ cut-whole (mul binary64 (v s) perStep) (partsOf (v s)) (whole s) (small s))
+    let s = c .before .before in
+    result-is (c .truncating-f64-to-i64 .ok) (c .truncating-f64-to-i64 .ensures ∙ cut-whole (c .before .in-parts .result) (partsOf (v s)) (whole (c .before)) (small s))
 
 add-result : tie.Need-add-result
-add-result c = subst (λ (z : ℤ). SFits w64 (z +ℤ half)) (sym (cut-is c)) (half-added (partsOf (v (c .before))) (bound (c .before)))
+add-result c =
+    let cut = back (c .truncating-f64-to-i64 .result) in
+    let near : Within (pos (placedLimit * partsPerStep)) cut = subst⁻¹ (Within (pos (placedLimit * partsPerStep))) (cut-is c) (within-of-natAbs (bound (c .before .before))) in
+    linfits (cut ∷ []) (bounds near) (search machine depth 40) (tt, tt)
 
 returns : tie.Need-returns
 returns c =
-    ap (λ (z : ℤ). toZ w64 (ofZ w64 (shrZ (toZ w64 (ofZ w64 (z +ℤ half))) partsPerStep))) (cut-is c) ∙ shifted (partsOf (v (c .before))) (bound (c .before))
+    let cut = back (c .truncating-f64-to-i64 .result) in
+    let parts = partsOf (v (c .before .before)) in
+    shifted parts (add-result c) (comb (cut ∷ parts ∷ []) (cut-is c) (search read depth 40) tt)
 
 pub nearest-step-spec : {M : Type 1} → statement M
-nearest-step-spec = tie.close (tie.spec truncating-f64-to-i64-requires add-result returns)
+nearest-step-spec = tie.close (tie.spec in-parts-requires truncating-f64-to-i64-requires add-result returns)

@@ -15,7 +15,13 @@ use lib.IntN.{ℤ, pos}
 use lib.Ieee.{Float, nan, inf, fin, up, down, neg, le, lt}
 use lib.Ieee.Fits.{down-pos, and-i, and-l, eq→eqb}
 use lib.Ieee.Exact.{HasValue}
-use Rattle.placement.specs.Laws.PartsOf.{Inside}
+use Rattle.placement.specs.Parts.{Inside}
+
+-- ---- within a limit, and so within a larger one
+pub inside-wider : {a b : ℕ} → a ≤ b → (x : Float) → Inside a x → Inside b x
+inside-wider h nan i = absurd i
+inside-wider h (inf s) i = absurd i
+inside-wider h (fin s m e) i = le-trans i (mul-le-mul-right (down e) h)
 
 -- ---- two tests that pass together are equal
 pub same : (p q : Bool) → (T p → T q) → (T q → T p) → p ≡ q

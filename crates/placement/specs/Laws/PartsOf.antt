@@ -1,7 +1,5 @@
 -- Of a multiple of 1/65,536 `partsOf` is how many parts it is.
 --
--- Definitions
---   Inside limit x                    x is finite, and from −limit to limit
 -- Main results
 --   multiple-value, multiple-bound    where the test passes, x is partsOf x / 65,536, and partsOf x in its range
 --   value-multiple                    and where x is k / 65,536 and k in the range, the test passes and k is partsOf x
@@ -17,13 +15,8 @@ use lib.Ieee.{Float, nan, inf, fin, up, down}
 use lib.Ieee.Fits.{down-pos}
 use Rattle.integers.specs.Units.{partsPerStep}
 use Rattle.integers.specs.Tests.{eqb-means, leb-means, and-means, no-means}
-use Rattle.placement.specs.Parts.{signed, Value, partsOf, isMultiple}
+use Rattle.placement.specs.Parts.{signed, Value, partsOf, isMultiple, Inside}
 use Rattle.placement.specs.Laws.Values.{of-has, has}
-
-abbrev pub Inside : ℕ → Float → Type 0
-Inside limit nan = ⊥
-Inside limit (inf s) = ⊥
-Inside limit (fin s m e) = m * up e ≤ limit * down e
 
 test-means : (limit : ℕ) (s : Bool) (m : ℕ) (e : ℤ)
     → (isMultiple limit (fin s m e) ≡ true) ↔ ((m * up e * partsPerStep % down e ≡ 0) × Inside limit (fin s m e))

@@ -13,8 +13,10 @@ use mathlib.Core.List.{List, [], _∷_}
 use Prim.Native.Nat.{ℕ, zero, suc, _+_, _*_, _<_}
 use native.Mathlib.Omega.{arith}
 use lib.ListN.{length, getD, take, drop}
+use lib.Seq.{drop-cons}
 use lib.IntN.{ℤ, pos}
-use Rattle.integers.specs.Tests.{every, and-means}
+use Rattle.integers.specs.Below.{both}
+use Rattle.integers.specs.Tests.{every}
 use Rattle.integers.specs.Every.{every-entry, every-part}
 use Rattle.placement.specs.Placed.{acrossOf, downOf, placed, floatsUsable, inReach, placeable}
 use Rattle.placement.specs.declared.Placement.{Placement}
@@ -32,35 +34,9 @@ placed-length p [] = refl
 placed-length p (x ∷ []) = refl
 placed-length p (x ∷ y ∷ rest) = ap (λ n. suc (suc n)) (placed-length p rest)
 
--- where point k + 1 stands
+-- two coordinates on for each point
 pair : (k : ℕ) → 2 * suc k ≡ suc (suc (2 * k))
 pair k = omega arith
-
--- ---- point k
-module _ (p : Placement) where
-  pub placed-x : (l : List ℤ) (k : ℕ) → 2 * k + 1 < length l
-      → getD (placed p l) (2 * k) (pos 0) ≡ acrossOf p (getD l (2 * k) (pos 0)) (getD l (2 * k + 1) (pos 0))
-  unfolding placed
-  placed-x [] k h = absurd (omega arith)
-  placed-x (x ∷ []) k h = absurd (omega arith)
-  placed-x (x ∷ y ∷ rest) zero h = refl
-  placed-x (x ∷ y ∷ rest) (suc k) h =
-      let j : suc (suc (2 * k + 1)) ≡ 2 * suc k + 1 = omega arith in
-      ap (λ n. getD (placed p (x ∷ y ∷ rest)) n (pos 0)) (pair k)
-      ∙ placed-x rest k (omega arith)
-      ∙ ap₂ (λ m n. acrossOf p (getD (x ∷ y ∷ rest) m (pos 0)) (getD (x ∷ y ∷ rest) n (pos 0))) (sym (pair k)) j
-
-  pub placed-y : (l : List ℤ) (k : ℕ) → 2 * k + 1 < length l
-      → getD (placed p l) (2 * k + 1) (pos 0) ≡ downOf p (getD l (2 * k) (pos 0)) (getD l (2 * k + 1) (pos 0))
-  unfolding placed
-  placed-y [] k h = absurd (omega arith)
-  placed-y (x ∷ []) k h = absurd (omega arith)
-  placed-y (x ∷ y ∷ rest) zero h = refl
-  placed-y (x ∷ y ∷ rest) (suc k) h =
-      let j : suc (suc (2 * k + 1)) ≡ 2 * suc k + 1 = omega arith in
-      ap (λ n. getD (placed p (x ∷ y ∷ rest)) n (pos 0)) (sym j)
-      ∙ placed-y rest k (omega arith)
-      ∙ ap₂ (λ m n. downOf p (getD (x ∷ y ∷ rest) m (pos 0)) (getD (x ∷ y ∷ rest) n (pos 0))) (sym (pair k)) j
 
 -- ---- a part that begins and ends between two points
 placed-take : (p : Placement) (n : ℕ) (l : List ℤ) → placed p (take (2 * n) l) ≡ take (2 * n) (placed p l)
@@ -84,11 +60,37 @@ placed-drop p (suc n) (x ∷ y ∷ l) =
 pub placed-part : (p : Placement) (i n : ℕ) (l : List ℤ) → placed p (take (2 * n) (drop (2 * i) l)) ≡ take (2 * n) (drop (2 * i) (placed p l))
 placed-part p i n l = placed-take p n (drop (2 * i) l) ∙ ap (take (2 * n)) (placed-drop p i l)
 
+-- ---- point k: the first two coordinates that are left after those of the points before it
+two : (l : List ℤ) (i : ℕ) → i + 1 < length l → drop i l ≡ getD l i (pos 0) ∷ getD l (i + 1) (pos 0) ∷ drop (i + 2) l
+two l i h =
+    let next : suc i ≡ i + 1 = omega arith in
+    let past : suc (i + 1) ≡ i + 2 = omega arith in
+    drop-cons l i (pos 0) (omega arith)
+    ∙ ap (λ r. getD l i (pos 0) ∷ r) (ap (λ n. drop n l) next ∙ drop-cons l (i + 1) (pos 0) h ∙ ap (λ n. getD l (i + 1) (pos 0) ∷ drop n l) past)
+
+module _ (p : Placement) (l : List ℤ) (k : ℕ) (h : 2 * k + 1 < length l) where
+  abbrev x : ℤ
+  x = getD l (2 * k) (pos 0)
+
+  abbrev y : ℤ
+  y = getD l (2 * k + 1) (pos 0)
+
+  from-k : getD (placed p l) (2 * k) (pos 0) ∷ getD (placed p l) (2 * k + 1) (pos 0) ∷ drop (2 * k + 2) (placed p l)
+      ≡ acrossOf p x y ∷ downOf p x y ∷ placed p (drop (2 * k + 2) l)
+  unfolding placed
+  from-k =
+      let inside : 2 * k + 1 < length (placed p l) = omega (arith, h, placed-length p l) in
+      sym (two (placed p l) (2 * k) inside) ∙ sym (placed-drop p k l) ∙ ap (placed p) (two l (2 * k) h)
+
+  pub placed-x : getD (placed p l) (2 * k) (pos 0) ≡ acrossOf p x y
+  placed-x = ap (λ r. getD r 0 (pos 0)) from-k
+
+  pub placed-y : getD (placed p l) (2 * k + 1) (pos 0) ≡ downOf p x y
+  placed-y = ap (λ r. getD r 1 (pos 0)) from-k
+
 -- ---- question 12. It asks the same of the floats whatever the points, so an answer is carried over where that about the points is.
 asked-of : (floats : Bool) (k l : List ℤ) → (every inReach k ≡ true → every inReach l ≡ true) → (floats && every inReach k) ≡ true → (floats && every inReach l) ≡ true
-asked-of floats k l f e =
-    let said = and-means floats (every inReach k) (λ h. h, λ h. h) (λ h. h, λ h. h) .0 e in
-    and-means floats (every inReach l) (λ h. h, λ h. h) (λ h. h, λ h. h) .1 (said .0, f (said .1))
+asked-of floats k l f e = let said = both floats (every inReach k) e in ap₂ _&&_ (said .0) (f (said .1))
 
 carried : (p : Placement) (k l : List ℤ) → (every inReach k ≡ true → every inReach l ≡ true) → placeable p k ≡ true → placeable p l ≡ true
 carried None k l f e = refl

@@ -8,42 +8,44 @@
 --   product-bound, sum-bound, all-bound, partsAt-bound
 use mathlib.Core.Path.{_≡_}
 use mathlib.Core.Bool.{true, _&&_}
-use Prim.Native.Nat.{ℕ, suc, _+_, _-_, _*_, _≤_, suc-le-suc}
+use Prim.Native.Nat.{ℕ, _+_, _-_, _*_, _≤_}
 use native.Mathlib.Nat.{mul-le-mul, le-trans, le-of-eq}
 use native.Mathlib.Omega.{arith}
-use lib.Dec.{leb, lit≤}
-use lib.IntN.{ℤ, pos, negsuc, natAbs, _+ℤ_, _*ℤ_}
+use lib.IntN.{ℤ, pos, negℤ, natAbs, _+ℤ_, _*ℤ_}
+use lib.Signed.{leZ-yes}
 use lib.Ieee.{Float}
 use Rattle.integers.specs.Units.{partsPerStep, factorLimit, offsetLimit, movableLimit, placedLimit}
 use Rattle.integers.specs.Magnitude.{natAbs-mul, natAbs-triangle}
-use Rattle.integers.specs.Tests.{leb-means, and-means}
+use Rattle.integers.specs.Below.{both}
+use Rattle.integers.specs.Tests.{between-means}
+use Rattle.integers.specs.Order.{≤ℤ-trans}
+use Rattle.integers.specs.Within.{natAbs-of-within}
 use Rattle.placement.specs.Parts.{partsOf, isMultiple}
 use Rattle.placement.specs.Placed.{partsAt, inReach}
 use Rattle.placement.specs.Ready.{Ready}
 use Rattle.placement.specs.Laws.PartsOf.{multiple-bound}
 
 pub reach-small : (x : ℤ) → inReach x ≡ true → natAbs x ≤ movableLimit
-reach-small (pos n) e = le-trans (leb-means n (movableLimit - 1) .0 e) (lit≤ tt)
-reach-small (negsuc n) e = suc-le-suc (leb-means n (movableLimit - 1) .0 (and-means (leb n (movableLimit - 1)) true (λ h. h, λ h. h) (λ h. h, λ h. h) .0 e .0))
+reach-small x e =
+    let said = between-means (negℤ (pos movableLimit)) (pos (movableLimit - 1)) x .0 e in
+    natAbs-of-within (record { low = said .0; high = ≤ℤ-trans (said .1) (leZ-yes tt) })
 
 abbrev pub productLimit : ℕ
 productLimit = factorLimit * partsPerStep * movableLimit
 
 -- ---- what a caller has said, number by number
 module _ {a b c : Float} {x y : ℤ} (r : Ready a b c x y) where
-  floats : (isMultiple factorLimit a ≡ true) × ((isMultiple factorLimit b ≡ true) × (isMultiple offsetLimit c ≡ true))
-  floats =
-      and-means (isMultiple factorLimit a) (isMultiple factorLimit b && isMultiple offsetLimit c) (λ h. h, λ h. h)
-      (and-means (isMultiple factorLimit b) (isMultiple offsetLimit c) (λ h. h, λ h. h) (λ h. h, λ h. h)) .0 (r .row)
+  rest : (isMultiple factorLimit b && isMultiple offsetLimit c) ≡ true
+  rest = both (isMultiple factorLimit a) (isMultiple factorLimit b && isMultiple offsetLimit c) (r .row) .1
 
   pub a-usable : isMultiple factorLimit a ≡ true
-  a-usable = floats .0
+  a-usable = both (isMultiple factorLimit a) (isMultiple factorLimit b && isMultiple offsetLimit c) (r .row) .0
 
   pub b-usable : isMultiple factorLimit b ≡ true
-  b-usable = floats .1 .0
+  b-usable = both (isMultiple factorLimit b) (isMultiple offsetLimit c) rest .0
 
   pub c-usable : isMultiple offsetLimit c ≡ true
-  c-usable = floats .1 .1
+  c-usable = both (isMultiple factorLimit b) (isMultiple offsetLimit c) rest .1
 
   pub x-small : natAbs x ≤ movableLimit
   x-small = reach-small x (r .x-in)

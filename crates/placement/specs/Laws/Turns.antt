@@ -3,6 +3,7 @@
 -- Main results
 --   shift-x, shift-y, scale-x, scale-y             the parts are the same
 --   turn-ready, shift-ready, scale-ready           question 12's yes of a point makes both rows of its turn ready
+--   ready-at, nearest-at                           the same of coordinates read back from their bits
 use mathlib.Core.Path.{_≡_, refl, sym, ap₂, _∙_, subst}
 use mathlib.Core.Bool.{Bool, true, _&&_}
 use mathlib.Core.List.{[], _∷_}
@@ -10,8 +11,9 @@ use lib.IntN.{ℤ, pos, _+ℤ_, _*ℤ_}
 use lib.Ieee.{Float}
 use Rattle.integers.specs.Units.{partsPerStep, factorLimit, offsetLimit}
 use Rattle.integers.specs.Ring.{read, ring}
-use Rattle.integers.specs.Tests.{every, and-means}
-use Rattle.placement.specs.Parts.{partsOf, isMultiple, one, nought}
+use Rattle.integers.specs.Below.{both}
+use Rattle.integers.specs.Tests.{every}
+use Rattle.placement.specs.Parts.{partsOf, isMultiple, nearest, one, nought}
 use Rattle.placement.specs.Placed.{partsAt, rowUsable, inReach, placeable}
 use Rattle.placement.specs.Ready.{Ready}
 use Rattle.placement.specs.declared.Matrix.{Matrix}
@@ -56,9 +58,6 @@ scale-y s x y =
     ap₂ (λ (k l : ℤ). k *ℤ x +ℤ partsOf s *ℤ y +ℤ l) parts-nought parts-nought ∙ ring (x ∷ y ∷ partsOf s ∷ []) (search read depth 40) tt
 
 -- ---- both rows are ready
-both : (p q : Bool) → (p && q) ≡ true → (p ≡ true) × (q ≡ true)
-both p q = and-means p q (λ h. h, λ h. h) (λ h. h, λ h. h) .0
-
 row-of : (a b c : Float) → isMultiple factorLimit a ≡ true → isMultiple factorLimit b ≡ true → isMultiple offsetLimit c ≡ true → rowUsable a b c ≡ true
 row-of a b c h k l = ap₂ _&&_ h (ap₂ _&&_ k l)
 
@@ -94,6 +93,9 @@ scale-ready s e =
     let said = yes e in
     (ready said (row-of s nought nought (said .usable) nought-usable nought-offset), ready said (row-of nought s nought nought-usable (said .usable) nought-offset))
 
--- ---- a point whose coordinates are the same, as integers read back from their bits are
+-- ---- coordinates that are the same, as those read back from their bits are
 pub ready-at : {a b c : Float} {x x' y y' : ℤ} → x' ≡ x → y' ≡ y → Ready a b c x y → Ready a b c x' y'
 ready-at {a} {b} {c} {x} {x'} {y} {y'} e f r = subst (λ (z : ℤ). Ready a b c z y') (sym e) (subst (λ (z : ℤ). Ready a b c x z) (sym f) r)
+
+pub nearest-at : (a b c : Float) {x x' y y' : ℤ} → x' ≡ x → y' ≡ y → nearest (partsAt a b c x' y') ≡ nearest (partsAt a b c x y)
+nearest-at a b c e f = ap₂ (λ x y. nearest (partsAt a b c x y)) e f

@@ -15,9 +15,8 @@ use lib.IntN.{ℤ, pos, negsuc, negℤ, natAbs}
 use lib.Ieee.{Float, nan, inf, fin, binary64, up, down, round, ofInt, toSigned, inFloat}
 use lib.Ieee.Fits.{down-pos}
 use lib.Ieee.Back.{round-whole}
-use Rattle.placement.specs.Parts.{signed, Value}
+use Rattle.placement.specs.Parts.{signed, Value, Inside}
 use Rattle.placement.specs.Laws.Values.{of-has, has}
-use Rattle.placement.specs.Laws.PartsOf.{Inside}
 
 pub whole-value : (z : ℤ) → natAbs z ≤ 2 ^ 53 → Value (ofInt binary64 z) z 1
 unfolding ofInt
