@@ -1,4 +1,4 @@
-/* Grey tiles from traced outlines: the four calls of the proved library libtile_c.a, which `rt staticlib tile_c` makes.
+/* Grey tiles from traced outlines: the five calls of the proved library libtile_c.a, which `rt staticlib tile_c` makes.
  *
  * A tile is a square of 1, 2, 4, 8, 16, 32 or 64 pixels a side; a step is 1/256 pixel; x grows to the right, y downwards. An outline is
  * closed contours of whole points, letters clockwise as seen on the page, the holes in them anticlockwise. Building turns it into a table of
@@ -7,18 +7,21 @@
  * Each call answers 0 where the work is done, or the number of the first question that is answered no, and then no table and no picture has
  * changed. The questions, in each call's order:
  *
- *   building: 1, 2, 4, 5, 3, 6      pictures and greys: 1, 2, 7, 8, 9      one cell: 1, 2, 7, 10, 9
+ *   building: 1, 2, 4, 5, 3, 6      building with a placement: 1, 2, 4, 5, 3, 12, 6
+ *   pictures and greys: 1, 2, 7, 8, 9      one cell: 1, 2, 7, 10, 9
  *
  *    1  Is the side 1, 2, 4, 8, 16, 32 or 64?
  *    2  Has the table exactly side x side entries?
  *    3  Are the points exactly twice as many numbers as the counts' sum?
  *    4  Is every count from 3 to 1,024?
  *    5  Is the counts' sum at most 1,024?
- *    6  Is every coordinate from 0 to 256 x side?
+ *    6  Is every coordinate, as placed, from 0 to 256 x side?
  *    7  Is the level at most the depth, the number of halvings from the side to 1?
  *    8  Has the picture exactly 4^level places?
  *    9  Is every entry of the table from -2^40 to 2^40?
  *   10  Are both cell numbers below 2^level?
+ *   12  Is every number of the placement a multiple of 1/65,536 in its range (factors from -2 to 2, offsets from -16,384 to 16,384), and
+ *       every coordinate that is moved from -32,768 to 32,767?
  *
  * Numbers may be any. What the caller owes, since no function can ask it: a pointer is not NULL, even where its length is 0, is aligned for
  * what it points to, and as many elements as its length says are there; what is written overlaps nothing else that is passed; and nobody
@@ -37,6 +40,19 @@ extern "C" {
  * becomes the number of edges, or 0 where the call is refused. What the table held before makes no difference. */
 uint32_t mattuliyan_build(uint32_t side, const int64_t *points, size_t points_length, const uint32_t *counts, size_t counts_length,
                           int64_t *table, size_t table_length, uint32_t *edges);
+
+/* As mattuliyan_build, of the points as placed. How many numbers the placement has says what is done to a point (x, y), in steps; another
+ * length is answered 12, in that question's place.
+ *
+ *   0           nothing
+ *   1  s        scaled, to (s x, s y): a factor
+ *   2  u, v     shifted, to (x + u, y + v): two offsets
+ *   6  a to f   turned, to (a x + b y + c, d x + e y + f): c and f are offsets, the others factors
+ *
+ * A moved coordinate is rounded to the nearest step, halves towards the larger. Question 6 is asked of the points as placed. */
+uint32_t mattuliyan_build_placed(uint32_t side, const int64_t *points, size_t points_length, const uint32_t *counts,
+                                 size_t counts_length, const double *placement, size_t placement_length, int64_t *table,
+                                 size_t table_length, uint32_t *edges);
 
 /* Draws the figures of a level, row by row from the top left: 4^level times each cell's area, in units of which 131,072 are a pixel. */
 uint32_t mattuliyan_figures(uint32_t side, uint32_t level, const int64_t *table, size_t table_length, int64_t *picture,

@@ -147,7 +147,7 @@ impl Work {
         for level in size.levels() {
             let picture = &mut self.pictures[level as usize];
             mattuliyan::greys(SIDE, level, black_box(&self.tiles[self.turn].table), picture)
-                .map_err(|number| format!("greys of level {level} answered {number}"))?;
+                .map_err(|refusal| format!("greys of level {level}: {refusal}"))?;
             black_box(picture);
         }
         Ok(())
@@ -182,7 +182,7 @@ impl Work {
             self.turn = turn;
             let mut figures = vec![0; cells(level)];
             mattuliyan::figures(SIDE, level, &self.tiles[turn].table, &mut figures)
-                .map_err(|number| format!("figures of level {level} answered {number}"))?;
+                .map_err(|refusal| format!("figures of level {level}: {refusal}"))?;
             self.run(Draw(All))?;
             let ours = self.pictures[level as usize].clone();
             self.run(Other(library, All))?;

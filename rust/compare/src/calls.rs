@@ -1,4 +1,5 @@
 //! One call of the library beside the same call of the reference: equal answers, equal buffers afterwards, and nothing else written.
+use mattuliyan::Refusal;
 use reference::Rules;
 use std::fmt::{Debug, Display, Formatter};
 
@@ -23,6 +24,7 @@ pub fn build(
     let expected = reference::build(rules, side, points, counts, held);
     let (lent_points, lent_counts, mut table) = (Guarded::new(points), Guarded::new(counts), Guarded::new(held));
     let answer = mattuliyan::build(side, lent_points.get(), lent_counts.get(), table.get_mut());
+    let answer = answer.map_err(Refusal::number);
     lent_points.same("the points after build", points)?;
     lent_counts.same("the counts after build", counts)?;
     let answered = expected.as_ref().map(|&(edges, _)| edges).map_err(|&number| number);
@@ -66,7 +68,7 @@ pub fn cell(
 ) -> Result<Result<i64, u8>, Difference> {
     let expected = reference::cell(rules, side, level, cx, cy, table);
     let lent = Guarded::new(table);
-    let answer = mattuliyan::cell(side, level, cx, cy, lent.get());
+    let answer = mattuliyan::cell(side, level, cx, cy, lent.get()).map_err(Refusal::number);
     lent.same("the table after cell", table)?;
     same("what cell answers", &answer, &expected)?;
     Ok(answer)
@@ -77,10 +79,10 @@ fn picture<T: Element>(
     table: &[i64],
     held: &[T],
     expected: Result<Vec<T>, u8>,
-    call: impl FnOnce(&[i64], &mut [T]) -> Result<(), u8>,
+    call: impl FnOnce(&[i64], &mut [T]) -> Result<(), Refusal>,
 ) -> Result<Result<Vec<T>, u8>, Difference> {
     let (lent, mut picture) = (Guarded::new(table), Guarded::new(held));
-    let answer = call(lent.get(), picture.get_mut());
+    let answer = call(lent.get(), picture.get_mut()).map_err(Refusal::number);
     lent.same(&format!("the table after {name}"), table)?;
     same(&format!("what {name} answers"), &answer, &expected.as_ref().map(|_| ()).map_err(|&number| number))?;
     picture.same(&format!("the picture after {name}"), expected.as_ref().map_or(held, |picture| picture))?;

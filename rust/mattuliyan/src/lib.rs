@@ -5,31 +5,27 @@
 //! of Haar coefficients, from which [`figures`], [`greys`] and [`cell`] draw any level: 2^level pixels across, from 1 to the side.
 //!
 //! ```
-//! // a square of one pixel, in the upper left of a tile of two
-//! let points = [0, 0, 256, 0, 256, 256, 0, 256];
-//! let (mut table, mut picture) = ([0; 4], [0; 4]);
-//! assert_eq!(mattuliyan::build(2, &points, &[4], &mut table), Ok(4));
-//! assert_eq!(mattuliyan::greys(2, 1, &table, &mut picture), Ok(()));
-//! assert_eq!(picture, [255, 0, 0, 0]);
+//! use std::error::Error;
+//!
+//! fn main() -> Result<(), Box<dyn Error>> {
+//!     // a square of one pixel, in the upper left of a tile of two
+//!     let points = [0, 0, 256, 0, 256, 256, 0, 256];
+//!     let (mut table, mut picture) = ([0; 4], [0; 4]);
+//!     let edges = mattuliyan::build(2, &points, &[4], &mut table)?;
+//!     mattuliyan::greys(2, 1, &table, &mut picture)?;
+//!     assert_eq!((edges, picture), (4, [255, 0, 0, 0]));
+//!     Ok(())
+//! }
 //! ```
 //!
-//! Every input is answered. `Err` has the number of the first question that is answered no, and then no slice has changed:
+//! A letter from a sheet that lay askew is straightened by a [`Placement`], which [`build_placed`] takes with the outline.
 //!
-//! | | |
-//! |---|---|
-//! | 1 | Is the side 1, 2, 4, 8, 16, 32 or 64? |
-//! | 2 | Has the table exactly side × side entries? |
-//! | 3 | Are the points exactly twice as many numbers as the counts' sum? |
-//! | 4 | Is every count from 3 to 1,024? |
-//! | 5 | Is the counts' sum at most 1,024? |
-//! | 6 | Is every coordinate from 0 to 256 × side? |
-//! | 7 | Is the level at most the depth? |
-//! | 8 | Has the picture exactly 4^level places? |
-//! | 9 | Is every entry of the table from −2^40 to 2^40? |
-//! | 10 | Are both cell numbers below 2^level? |
-//!
-//! Building asks 1, 2, 4, 5, 3, 6; figures and greys 1, 2, 7, 8, 9; one cell 1, 2, 7, 10, 9.
+//! Every input is answered: the work is done, or the call is refused, and a [`Refusal`] says why.
 #![warn(missing_docs)]
+
+mod refusal;
+
+pub use refusal::Refusal;
 
 /// `include/mattuliyan.h` of the crate `tile_c`, which says what a caller owes: what every slice of Rust gives.
 mod c {
@@ -40,6 +36,18 @@ mod c {
             points_length: usize,
             counts: *const u32,
             counts_length: usize,
+            table: *mut i64,
+            table_length: usize,
+            edges: *mut u32,
+        ) -> u32;
+        pub fn mattuliyan_build_placed(
+            side: u32,
+            points: *const i64,
+            points_length: usize,
+            counts: *const u32,
+            counts_length: usize,
+            placement: *const f64,
+            placement_length: usize,
             table: *mut i64,
             table_length: usize,
             edges: *mut u32,
@@ -72,19 +80,19 @@ mod c {
     }
 }
 
-/// The answer to a call: what it wrote where it is done, or the number of a refusal, which carries 0.
-fn answer<T: Default + PartialEq>(number: u32, written: T) -> Result<T, u8> {
+/// The answer to a call: what it wrote where it is done, or a refusal, which carries 0.
+fn answer<T: Default + PartialEq>(number: u32, written: T) -> Result<T, Refusal> {
     if number == 0 {
         return Ok(written);
     }
     // Proved; a declaration above that is wrong would show here.
     assert!(written == T::default(), "a refusal carries 0");
-    Err(u8::try_from(number).expect("the questions are numbered from 1 to 10"))
+    Err(Refusal::of(number).expect("a refusal has a question's number"))
 }
 
 /// Builds the table of an outline: `points` has x and y of each point in turn, in steps, and `counts` how many points each contour has. The
 /// answer is the number of edges. What the table held before makes no difference.
-pub fn build(side: u32, points: &[i64], counts: &[u32], table: &mut [i64]) -> Result<u32, u8> {
+pub fn build(side: u32, points: &[i64], counts: &[u32], table: &mut [i64]) -> Result<u32, Refusal> {
     // no edge count, so that a call that did not write one would show
     let mut edges = u32::MAX;
 
@@ -104,8 +112,96 @@ pub fn build(side: u32, points: &[i64], counts: &[u32], table: &mut [i64]) -> Re
     answer(number, edges)
 }
 
+/// What is done to the points of an outline before it is drawn. Numbers are multiples of 1/65,536: factors from −2 to 2, offsets, in steps,
+/// from −16,384 to 16,384. A moved coordinate is from −32,768 to 32,767 before, and is rounded to the nearest step, halves towards the larger.
+#[derive(Clone, Copy, Debug, PartialEq)]
+pub enum Placement {
+    /// The points stay as they are.
+    None,
+    /// Offsets of x and of y.
+    Shift(f64, f64),
+    /// One factor of x and y.
+    Scale(f64),
+    /// a, b, c, d, e, f: the point (x, y) goes to (a × x + b × y + c, d × x + e × y + f). The offsets are c and f, the others are factors.
+    Turn([f64; 6]),
+}
+
+/// Builds the table of an outline that is placed first; all else is as with [`build`].
+///
+/// ```
+/// # fn main() -> Result<(), Box<dyn std::error::Error>> {
+/// use mattuliyan::Placement;
+///
+/// // a stroke of 2 × 6 pixels on a tile of 8, from a sheet that lay 5 degrees askew
+/// let points = [836, 237, 1346, 281, 1212, 1811, 702, 1767];
+///
+/// // back by 5 degrees about the middle of the tile, in numbers that are multiples of 1/65,536
+/// let (sin, cos) = 5f64.to_radians().sin_cos();
+/// let (sin, cos) = ((sin * 65_536.0).round() / 65_536.0, (cos * 65_536.0).round() / 65_536.0);
+/// let (x, y) = (1024.0, 1024.0);
+/// let straight = Placement::Turn([cos, sin, x - cos * x - sin * y, -sin, cos, y + sin * x - cos * y]);
+///
+/// let (mut table, mut picture) = ([0; 64], [0; 64]);
+/// mattuliyan::build_placed(8, &points, &[4], straight, &mut table)?;
+/// mattuliyan::greys(8, 3, &table, &mut picture)?;
+/// for row in 1..7 {
+///     assert_eq!(picture[8 * row..][..8], [0, 0, 0, 255, 255, 0, 0, 0]);
+/// }
+///
+/// // 1/3 is no multiple of 1/65,536
+/// let refused = mattuliyan::build_placed(8, &points, &[4], Placement::Scale(1.0 / 3.0), &mut table);
+/// assert_eq!(refused.map_err(|refusal| refusal.number()), Err(12));
+/// # Ok(())
+/// # }
+/// ```
+pub fn build_placed(
+    side: u32,
+    points: &[i64],
+    counts: &[u32],
+    placement: Placement,
+    table: &mut [i64],
+) -> Result<u32, Refusal> {
+    let numbers: &[f64] = match placement {
+        Placement::None => &[],
+        Placement::Shift(x, y) => &[x, y],
+        Placement::Scale(factor) => &[factor],
+        Placement::Turn(ref numbers) => numbers,
+    };
+    build_by_numbers(side, points, counts, numbers, table)
+}
+
+/// [`build_placed`] as C has it, a placement being told by how many numbers it has; another length is 12. It is for tests, which lend numbers
+/// that a [`Placement`] cannot hold.
+#[doc(hidden)]
+pub fn build_by_numbers(
+    side: u32,
+    points: &[i64],
+    counts: &[u32],
+    numbers: &[f64],
+    table: &mut [i64],
+) -> Result<u32, Refusal> {
+    let mut edges = u32::MAX; // as in `build`
+
+    // SAFETY: as in `build`.
+    let number = unsafe {
+        c::mattuliyan_build_placed(
+            side,
+            points.as_ptr(),
+            points.len(),
+            counts.as_ptr(),
+            counts.len(),
+            numbers.as_ptr(),
+            numbers.len(),
+            table.as_mut_ptr(),
+            table.len(),
+            &mut edges,
+        )
+    };
+    answer(number, edges)
+}
+
 /// Draws the figures of a level, row by row from the top left: 4^level times each cell's area, in units of which 131,072 are a pixel.
-pub fn figures(side: u32, level: u32, table: &[i64], picture: &mut [i64]) -> Result<(), u8> {
+pub fn figures(side: u32, level: u32, table: &[i64], picture: &mut [i64]) -> Result<(), Refusal> {
     // SAFETY: as in `build`.
     let number =
         unsafe { c::mattuliyan_figures(side, level, table.as_ptr(), table.len(), picture.as_mut_ptr(), picture.len()) };
@@ -113,7 +209,7 @@ pub fn figures(side: u32, level: u32, table: &[i64], picture: &mut [i64]) -> Res
 }
 
 /// Draws the greys of a level, row by row from the top left: 0 is bare paper, 255 full ink.
-pub fn greys(side: u32, level: u32, table: &[i64], picture: &mut [u8]) -> Result<(), u8> {
+pub fn greys(side: u32, level: u32, table: &[i64], picture: &mut [u8]) -> Result<(), Refusal> {
     // SAFETY: as in `build`.
     let number =
         unsafe { c::mattuliyan_greys(side, level, table.as_ptr(), table.len(), picture.as_mut_ptr(), picture.len()) };
@@ -121,7 +217,7 @@ pub fn greys(side: u32, level: u32, table: &[i64], picture: &mut [u8]) -> Result
 }
 
 /// The figure of one cell, column `cx` and row `cy` of the level: the one that [`figures`] puts there.
-pub fn cell(side: u32, level: u32, cx: u32, cy: u32, table: &[i64]) -> Result<i64, u8> {
+pub fn cell(side: u32, level: u32, cx: u32, cy: u32, table: &[i64]) -> Result<i64, Refusal> {
     // no figure of a table that is drawn
     let mut figure = i64::MAX;
 

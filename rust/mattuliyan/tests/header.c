@@ -1,4 +1,5 @@
-/* 01's letter F through the C header, and a refusal of each call: prints what is answered and left, one line a call. */
+/* 01's letter F through the C header, its letter G by a shift, and a refusal of each call: prints what is answered and left, one line a
+ * call. */
 #include "mattuliyan.h"
 
 #include <inttypes.h>
@@ -6,15 +7,22 @@
 
 int main(void) {
     const int64_t points[] = {0, 0, 384, 1, 0, 1};
+    const int64_t off_by_halves[] = {0, 7, 4, 8, 0, 8}; /* as shifted, (255,0) (259,1) (255,1) */
     const uint32_t counts[] = {3};
+    const double placement[] = {254.5, -7.5, 0};
     int64_t table[] = {7, 7, 7, 7}, figures[] = {7, 7, 7, 7}, figure = 7;
     uint8_t greys[] = {7, 7, 7, 7};
     uint32_t edges = 7, number;
 
     number = mattuliyan_build(2, points, 5, counts, 1, table, 4, &edges);
     printf("%" PRIu32 " %" PRIu32 " %" PRId64 "\n", number, edges, table[0]);
-    number = mattuliyan_build(2, points, 6, counts, 1, table, 4, &edges);
+    number = mattuliyan_build_placed(2, off_by_halves, 6, counts, 1, placement, 3, table, 4, &edges);
+    printf("%" PRIu32 " %" PRIu32 " %" PRId64 "\n", number, edges, table[0]);
+    number = mattuliyan_build_placed(2, off_by_halves, 6, counts, 1, placement, 2, table, 4, &edges);
     printf("%" PRIu32 " %" PRIu32, number, edges);
+    for (int i = 0; i < 4; i++) printf(" %" PRId64, table[i]);
+    number = mattuliyan_build(2, points, 6, counts, 1, table, 4, &edges);
+    printf("\n%" PRIu32 " %" PRIu32, number, edges);
     for (int i = 0; i < 4; i++) printf(" %" PRId64, table[i]);
     number = mattuliyan_figures(2, 1, table, 4, figures, 3);
     printf("\n%" PRIu32 " %" PRId64 "\n", number, figures[0]);

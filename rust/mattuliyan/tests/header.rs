@@ -59,9 +59,11 @@ fn flat(
 }
 
 fn c_type(rattle: &str) -> String {
-    match rattle.strip_prefix('u') {
-        Some(bits) => format!("uint{bits}_t"),
-        None => format!("int{}_t", rattle.strip_prefix('i').unwrap()),
+    match rattle.split_at(1) {
+        ("u", bits) => format!("uint{bits}_t"),
+        ("i", bits) => format!("int{bits}_t"),
+        ("f", "64") => "double".to_string(),
+        _ => panic!("no type of C for {rattle}"),
     }
 }
 
@@ -72,7 +74,7 @@ fn declarations_agree() {
     let header = in_one_line(&read("crates/tile_c/include/mattuliyan.h"));
     let wrapper = in_one_line(&read("rust/mattuliyan/src/lib.rs"));
     let exported = between(&source, "#[no_mangle] pub extern \"C\" fn ", " ensures ");
-    assert_eq!(exported.len(), 4);
+    assert_eq!(exported.len(), 5);
 
     let mut in_c = Vec::new();
     let mut in_rust = Vec::new();
@@ -128,7 +130,7 @@ fn answers_in_c() {
         Path::new("-o"),
         &program,
     ]));
-    let answers = "3 0 7\n0 3 384 299 384 299\n8 7\n0 1366 170 0 0\n7 7\n0 1 0 0 0\n10 0\n0 170\n";
+    let answers = "3 0 7\n12 0 7\n0 3 4 0 4 0\n0 3 384 299 384 299\n8 7\n0 1366 170 0 0\n7 7\n0 1 0 0 0\n10 0\n0 170\n";
     assert_eq!(run(&mut Command::new(program)), answers);
 }
 

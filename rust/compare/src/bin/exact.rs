@@ -82,7 +82,7 @@ fn page(name: &str, frame: &OsStr, answers: &[OsString]) -> Result<(String, bool
     let outline = Outline { side: frame.side, points: frame.points, counts: frame.counts };
     let mut table = vec![0; (frame.side as usize).pow(2)];
     mattuliyan::build(outline.side, &outline.points, &outline.counts, &mut table)
-        .map_err(|number| format!("{name}: refused {number:02}"))?;
+        .map_err(|refusal| format!("{name}: {refusal}"))?;
     let mut levels = Vec::new();
     for (level, path) in (0..=outline.depth()).zip(answers) {
         let answer = String::from_utf8(read(path)?).map_err(|error| format!("{}: {error}", path.display()))?;
@@ -107,7 +107,7 @@ fn drawn(outline: &Outline, level: u32, table: &[i64], answer: &str) -> Result<L
     let mut library_greys = vec![0; places];
     mattuliyan::figures(outline.side, level, table, &mut figures)
         .and_then(|()| mattuliyan::greys(outline.side, level, table, &mut library_greys))
-        .map_err(|number| format!("refused {number:02}"))?;
+        .map_err(|refusal| refusal.to_string())?;
     let mut lines = answer.lines();
     let first = format!("{:04x}{:016x}", outline.edges(), table[0]);
     if lines.next() != Some(&first) {

@@ -1,0 +1,79 @@
+//! The questions that calls ask, and the refusal where one is answered no.
+use std::error::Error;
+use std::fmt::{Display, Formatter};
+
+/// The list is written once, below: the numbers that a refusal can have, its words, and the table in its documentation are made from it.
+macro_rules! questions {
+    ($($number:literal $question:literal)*) => {
+        const QUESTIONS: &[(u8, &str)] = &[$(($number, $question)),*];
+
+        /// A call that is refused: the first of its questions that is answered no. Then no slice has changed.
+        ///
+        /// | | |
+        /// |---|---|
+        $(#[doc = concat!("| ", $number, " | ", $question, " |")])*
+        ///
+        /// [`build`](crate::build) asks 1, 2, 4, 5, 3, 6; [`build_placed`](crate::build_placed) 1, 2, 4, 5, 3, 12, 6;
+        /// [`figures`](crate::figures) and [`greys`](crate::greys) 1, 2, 7, 8, 9; [`cell`](crate::cell) 1, 2, 7, 10, 9.
+        #[derive(Clone, Copy, Debug, PartialEq, Eq)]
+        pub struct Refusal {
+            number: u8,
+            question: &'static str,
+        }
+    };
+}
+
+questions! {
+    1 "Is the side 1, 2, 4, 8, 16, 32 or 64?"
+    2 "Has the table exactly side × side entries?"
+    3 "Are the points exactly twice as many numbers as the counts' sum?"
+    4 "Is every count from 3 to 1,024?"
+    5 "Is the counts' sum at most 1,024?"
+    6 "Is every coordinate, as placed, from 0 to 256 × side?"
+    7 "Is the level at most the depth, the number of halvings from the side to 1?"
+    8 "Has the picture exactly 4^level places?"
+    9 "Is every entry of the table from −2^40 to 2^40?"
+    10 "Are both cell numbers below 2^level?"
+    12 "Is every number of the placement a multiple of 1/65,536 in its range (factors from −2 to 2, offsets from −16,384 to \
+        16,384), and every coordinate that is moved from −32,768 to 32,767?"
+}
+
+impl Refusal {
+    /// The refusal of this number, if a question has it. There is no other way to make one.
+    pub(crate) fn of(number: u32) -> Option<Refusal> {
+        let found = QUESTIONS.iter().find(|&&(each, _)| u32::from(each) == number);
+        found.map(|&(number, question)| Refusal { number, question })
+    }
+
+    /// The number of the question.
+    pub fn number(self) -> u8 {
+        self.number
+    }
+}
+
+impl Display for Refusal {
+    fn fmt(&self, to: &mut Formatter) -> std::fmt::Result {
+        write!(to, "refused {}. {} No.", self.number, self.question)
+    }
+}
+
+impl Error for Refusal {}
+
+#[cfg(test)]
+mod tests {
+    use super::*;
+
+    #[test]
+    fn only_the_listed_numbers_are_refusals() {
+        let numbers: Vec<u32> = (0..=300).filter(|&number| Refusal::of(number).is_some()).collect();
+        assert_eq!(numbers, [1, 2, 3, 4, 5, 6, 7, 8, 9, 10, 12]);
+        assert!(numbers.iter().all(|&number| u32::from(Refusal::of(number).unwrap().number()) == number));
+        assert_eq!(Refusal::of(u32::MAX), None);
+    }
+
+    #[test]
+    fn a_refusal_says_its_question() {
+        let said = Refusal::of(4).unwrap().to_string();
+        assert_eq!(said, "refused 4. Is every count from 3 to 1,024? No.");
+    }
+}
