@@ -6,9 +6,10 @@ use crate::STEPS;
 /// An exact value: a whole number over a positive denominator, not reduced.
 #[derive(Clone, Copy, Debug, PartialEq, Eq)]
 pub struct Fraction {
-    /// The numerator; 01 bounds an edge's by 2^57.
+    /// The numerator; 01 bounds an edge value's by 2^57.
     pub num: i128,
-    /// The denominator: |dx| × |dy| of the edge, or 1 where either is 0.
+    /// The denominator: of an edge value |dx| × |dy| of the edge, or 1 where
+    /// either is 0; of a placed coordinate 65,536.
     pub den: i128,
 }
 

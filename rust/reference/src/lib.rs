@@ -1,9 +1,10 @@
 //! An independent reference for grey tiles from traced outlines.
 //!
-//! It states the specification ("01") a second time, in plain Rust and by
-//! another method than the product, so that the two can be compared on any
-//! input. It is written to be read: nothing here is tuned beyond what running
-//! it on many thousands of outlines needs.
+//! It states the specification ("01") and the paragraph P1 of the change
+//! requests ("02"), placements, a second time, in plain Rust and by another
+//! method than the product, so that the two can be compared on any input. It
+//! is written to be read: nothing here is tuned beyond what running it on many
+//! thousands of outlines needs.
 //!
 //! # How areas are worked out
 //!
@@ -49,17 +50,27 @@
 //! a common denominator and still compares it exactly with whole numbers: a
 //! rigorous enclosure decides nearly always, big integers decide the rest.
 //!
+//! # How points are placed
+//!
+//! 02 places points in 64-bit floats and says that nothing is lost by it. Here
+//! no float is reckoned with at all: each one handed in is taken apart by its
+//! bits into a whole number of 65,536ths, or into none where it is no multiple
+//! of 1/65,536, and products, sums and rounding are those of whole numbers.
+//! Whoever measures demand 3 for a placed outline hands the points of
+//! [`placed`] to [`exact_areas`].
+//!
 //! # The rules, and wrong rules
 //!
 //! What a careful person may get wrong stands in the trait [`Rules`], whose
-//! default methods are 01's rules; [`Spec`] takes them all as they are. The
-//! module [`wrong`] has variants with one rule spoilt each: whoever compares a
-//! product with this reference can check that the comparison would notice.
+//! default methods are the papers' rules; [`Spec`] takes them all as they are.
+//! The module [`wrong`] has variants with one rule spoilt each: whoever
+//! compares a product with this reference can check that the comparison would
+//! notice.
 //!
 //! # Reading order
 //!
-//! `rules`, `questions`, `edge`, `table`, `picture`, `area`, `frame`; then
-//! `exact` and `big`, the arithmetic below; then `wrong`.
+//! `rules`, `questions`, `placement`, `edge`, `table`, `picture`, `area`,
+//! `frame`; then `exact` and `big`, the arithmetic below; then `wrong`.
 
 #![forbid(unsafe_code)]
 #![warn(missing_docs)]
@@ -70,6 +81,7 @@ mod edge;
 mod exact;
 mod frame;
 mod picture;
+mod placement;
 mod questions;
 mod rules;
 mod table;
@@ -80,9 +92,10 @@ pub use edge::{Bend, Cell, Edge, Fraction, Profile};
 pub use exact::{Exact, Miss};
 pub use frame::{frame, tile_program, Frame};
 pub use picture::{cell, figures, greys};
+pub use placement::{placed, Placement};
 pub use questions::{Limits, Question};
 pub use rules::{Rules, Spec};
-pub use table::build;
+pub use table::{build, build_placed};
 
 /// A full pixel's area: the unit is half a square step and a pixel is 256
 /// steps each way, so 2 × 256 × 256.
@@ -90,6 +103,10 @@ pub const PIXEL: i64 = 2 * STEPS * STEPS;
 
 /// "A step is 1/256 pixel."
 pub const STEPS: i64 = 256;
+
+/// "Every float handed in must be a multiple of 1/65,536": this many such
+/// parts are one.
+pub const PARTS: i128 = 65_536;
 
 /// The grey of full ink; 0 is bare paper.
 pub const FULL_GREY: u8 = 255;

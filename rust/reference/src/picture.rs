@@ -8,7 +8,7 @@ use crate::table::place;
 /// number. `places` is how many places the caller's picture has.
 pub fn figures(rules: &dyn Rules, side: u32, level: u32, table: &[i64], places: usize) -> Result<Vec<i64>, u8> {
     let given = Given { side, table, level, places, ..Given::default() };
-    given.ask(&rules.picture(), rules.limits())?;
+    given.ask(&rules.picture(), rules)?;
 
     // The whole picture of each level is made from that of the level above.
     let mut picture = vec![table[0]];
@@ -38,7 +38,7 @@ pub fn greys(rules: &dyn Rules, side: u32, level: u32, table: &[i64], places: us
 /// cells that hold it, or the refusal's number.
 pub fn cell(rules: &dyn Rules, side: u32, level: u32, cx: u32, cy: u32, table: &[i64]) -> Result<i64, u8> {
     let given = Given { side, table, level, cell: (cx, cy), ..Given::default() };
-    given.ask(&rules.one_cell(), rules.limits())?;
+    given.ask(&rules.one_cell(), rules)?;
 
     let mut figure = table[0];
     for j in 0..level {

@@ -3,9 +3,12 @@
 //! Each question is answered on its own, for any input at all, so that the
 //! order in which they are asked is a mere list.
 
-use crate::STEPS;
+use crate::placement::{moved, numbers, Placement};
+use crate::rules::Rules;
+use crate::{PARTS, STEPS};
 
-/// 01's ten questions about a call; each one's number is the refusal's.
+/// 01's ten questions about a call and 02's about a placement, which is 12;
+/// each one's number is the refusal's. 11 is the tile program's alone.
 #[derive(Clone, Copy, Debug, PartialEq, Eq)]
 pub enum Question {
     /// Is the side 1, 2, 4, 8, 16, 32 or 64?
@@ -18,7 +21,7 @@ pub enum Question {
     EachCount = 4,
     /// Is the counts' sum at most 1,024?
     CountSum = 5,
-    /// Is every coordinate from 0 to 256 × side?
+    /// Is every coordinate, as placed, from 0 to 256 × side?
     Coordinates = 6,
     /// Is the level at most the depth?
     Level = 7,
@@ -28,6 +31,9 @@ pub enum Question {
     Entries = 9,
     /// Are both cell numbers below 2^level?
     CellNumbers = 10,
+    /// Is every float handed in a multiple of 1/65,536 within its limits, and
+    /// every coordinate to be moved from −32,768 to 32,767?
+    Placing = 12,
 }
 
 /// The limits that the questions compare with.
@@ -43,12 +49,31 @@ pub struct Limits {
     pub most_edges: u32,
     /// The largest table entry that is drawn, and minus it the smallest.
     pub largest_entry: i64,
+    /// The largest factor of a placement in 65,536ths, and minus it the
+    /// smallest.
+    pub largest_factor: i128,
+    /// The largest offset of a placement in 65,536ths, and minus it the
+    /// smallest.
+    pub largest_offset: i128,
+    /// The smallest coordinate of a point to be moved.
+    pub lowest_moved: i64,
+    /// The largest coordinate of a point to be moved.
+    pub highest_moved: i64,
 }
 
 impl Limits {
-    /// 01's limits.
-    pub const SPEC: Limits =
-        Limits { greatest_side: 64, least_count: 3, most_count: 1024, most_edges: 1024, largest_entry: 1 << 40 };
+    /// 01's and 02's limits.
+    pub const SPEC: Limits = Limits {
+        greatest_side: 64,
+        least_count: 3,
+        most_count: 1024,
+        most_edges: 1024,
+        largest_entry: 1 << 40,
+        largest_factor: 2 * PARTS,
+        largest_offset: 16_384 * PARTS,
+        lowest_moved: -32_768,
+        highest_moved: 32_767,
+    };
 }
 
 /// What a call was given. What a call does not take stays empty, and no
@@ -59,6 +84,7 @@ pub(crate) struct Given<'a> {
     pub table: &'a [i64],
     pub points: &'a [i64],
     pub counts: &'a [u32],
+    pub placement: Placement,
     pub level: u32,
     pub places: usize,
     pub cell: (u32, u32),
@@ -66,14 +92,15 @@ pub(crate) struct Given<'a> {
 
 impl Given<'_> {
     /// "The first 'no' decides": its number, or no refusal.
-    pub fn ask(&self, order: &[Question], limits: Limits) -> Result<(), u8> {
-        match order.iter().find(|&&question| !self.yes(question, limits)) {
+    pub fn ask(&self, order: &[Question], rules: &dyn Rules) -> Result<(), u8> {
+        match order.iter().find(|&&question| !self.yes(question, rules)) {
             Some(&no) => Err(no as u8),
             None => Ok(()),
         }
     }
 
-    fn yes(&self, question: Question, limits: Limits) -> bool {
+    fn yes(&self, question: Question, rules: &dyn Rules) -> bool {
+        let limits = rules.limits();
         match question {
             Question::Side => self.side <= limits.greatest_side && self.side.count_ones() == 1,
             Question::TableLength => self.table.len() as u128 == u128::from(self.side) * u128::from(self.side),
@@ -84,7 +111,12 @@ impl Given<'_> {
             Question::CountSum => sum(self.counts) <= u128::from(limits.most_edges),
             Question::Coordinates => {
                 let far = STEPS * i64::from(self.side);
-                self.points.iter().all(|x| (0..=far).contains(x))
+                match moved(rules, self.placement, self.points) {
+                    Some(placed) => rules.judged(self.points, &placed).iter().all(|x| (0..=far).contains(x)),
+                    // A float that is refused places no point, so that there
+                    // is none to find off the tile.
+                    None => true,
+                }
             }
             Question::Level => self.level <= depth(self.side),
             Question::Places => power(4, self.level) == Some(self.places as u128),
@@ -96,6 +128,12 @@ impl Given<'_> {
                 // A power past 2^127 is above any cell number.
                 let cells = power(2, self.level).unwrap_or(u128::MAX);
                 u128::from(self.cell.0) < cells && u128::from(self.cell.1) < cells
+            }
+            Question::Placing => {
+                let movable = limits.lowest_moved..=limits.highest_moved;
+                let floats = || !rules.asks_floats(self.points) || numbers(rules, self.placement).is_some();
+                let points = || self.points.iter().all(|x| movable.contains(x));
+                !rules.moves_points(self.placement) || (floats() && points())
             }
         }
     }

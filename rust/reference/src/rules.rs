@@ -1,16 +1,17 @@
-//! 01's rules, one small method each.
+//! 01's rules and those of 02's P1, one small method each.
 
 use crate::edge::{Fraction, Profile};
+use crate::placement::{in_parts, Placement};
 use crate::questions::{Limits, Question};
-use crate::{FULL_GREY, PIXEL};
+use crate::{FULL_GREY, PARTS, PIXEL};
 
-/// The rules of 01 that are easily got wrong. Each default body is 01's rule;
-/// a wrong variant overrides one of them.
+/// The rules of 01 and of 02's P1 that are easily got wrong. Each default body
+/// is the papers' rule; a wrong variant overrides one of them.
 pub trait Rules {
-    /// The questions for building, in order: 1, 2, 4, 5, 3, 6.
+    /// The questions for building, in order: 1, 2, 4, 5, 3, 12, 6.
     fn building(&self) -> Vec<Question> {
         use Question::*;
-        vec![Side, TableLength, EachCount, CountSum, PointsLength, Coordinates]
+        vec![Side, TableLength, EachCount, CountSum, PointsLength, Placing, Coordinates]
     }
 
     /// The questions for pictures and greys, in order: 1, 2, 7, 8, 9.
@@ -72,9 +73,71 @@ pub trait Rules {
         let nearest = (2 * i128::from(FULL_GREY) * i128::from(figure) + full).div_euclid(2 * full);
         nearest.clamp(0, FULL_GREY.into()) as u8
     }
+
+    /// Whether the points are "points to be moved". Every placement but none
+    /// moves them, also one that leaves them where they are.
+    fn moves_points(&self, placement: Placement) -> bool {
+        !matches!(placement, Placement::None)
+    }
+
+    /// Whether question 12 is about the floats. It always is: a float outside
+    /// the rules is refused where there is no point as well.
+    fn asks_floats(&self, _points: &[i64]) -> bool {
+        true
+    }
+
+    /// A placement as a turn's a, b, c, d, e and f. A shift's two numbers are
+    /// offsets, and "a scale's number is a factor on both coordinates."
+    fn turn(&self, placement: Placement) -> [f64; 6] {
+        match placement {
+            Placement::None => [1.0, 0.0, 0.0, 0.0, 1.0, 0.0],
+            Placement::Shift(c, f) => [1.0, 0.0, c, 0.0, 1.0, f],
+            Placement::Scale(factor) => [factor, 0.0, 0.0, 0.0, factor, 0.0],
+            Placement::Turn(turn) => turn,
+        }
+    }
+
+    /// How many parts one has: "every float handed in must be a multiple of
+    /// 1/65,536." The numbers of a placement are whole numbers of parts.
+    fn parts(&self) -> i128 {
+        PARTS
+    }
+
+    /// The number of parts that a float handed in is, if it lies from minus
+    /// the limit to the limit, both ends allowed; none where it is refused. The
+    /// limit is in 65,536ths.
+    fn number(&self, float: f64, limit: i128) -> Option<i128> {
+        let number = in_parts(float, self.parts())?;
+        // |number| / parts ≤ limit / 65,536, multiplied out.
+        (number.abs() * PARTS <= limit * self.parts()).then_some(number)
+    }
+
+    /// "Turned points are a × x + b × y + c and d × x + e × y + f", both of the
+    /// point as it came.
+    fn placed_point(&self, turn: [i128; 6], x: i128, y: i128) -> [i128; 2] {
+        let [a, b, c, d, e, f] = turn;
+        [self.placed_coordinate([a * x, b * y], c), self.placed_coordinate([d * x, e * y], f)]
+    }
+
+    /// A placed coordinate from its two products and its offset, all three in
+    /// parts: "the result is rounded", and nothing before it.
+    fn placed_coordinate(&self, products: [i128; 2], offset: i128) -> i128 {
+        self.nearest_step(Fraction { num: products[0] + products[1] + offset, den: self.parts() })
+    }
+
+    /// "To the nearest step, halves towards the larger", below zero too.
+    fn nearest_step(&self, value: Fraction) -> i128 {
+        (2 * value.num + value.den).div_euclid(2 * value.den)
+    }
+
+    /// The points that question 6 is about, of those before they are moved and
+    /// those placed: "6 is decided on the placed points."
+    fn judged<'a>(&self, _before: &'a [i64], placed: &'a [i64]) -> &'a [i64] {
+        placed
+    }
 }
 
-/// 01 as it stands.
+/// 01, and 02's P1, as they stand.
 #[derive(Clone, Copy, Debug, Default)]
 pub struct Spec;
 

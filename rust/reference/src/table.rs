@@ -1,12 +1,12 @@
 //! Building the table from an outline.
 
 use crate::edge::{edges, Cell};
+use crate::placement::{placed, Placement};
 use crate::questions::{depth, Given};
 use crate::rules::Rules;
 
-/// Builds an outline's table: the edge count and the table that building must
-/// leave, or the refusal's number. Of `table`, what the caller's table holds
-/// before, only the length matters.
+/// Builds an outline's table as it comes, without a placement: see
+/// [`build_placed`].
 pub fn build(
     rules: &dyn Rules,
     side: u32,
@@ -14,10 +14,24 @@ pub fn build(
     counts: &[u32],
     table: &[i64],
 ) -> Result<(u32, Vec<i64>), u8> {
-    let given = Given { side, table, points, counts, ..Given::default() };
-    given.ask(&rules.building(), rules.limits())?;
+    build_placed(rules, side, points, counts, Placement::None, table)
+}
 
-    let edges = edges(rules, points, counts);
+/// Builds the table of an outline that is placed first: the edge count and the
+/// table that building must leave, or the refusal's number. Of `table`, what
+/// the caller's table holds before, only the length matters.
+pub fn build_placed(
+    rules: &dyn Rules,
+    side: u32,
+    points: &[i64],
+    counts: &[u32],
+    placement: Placement,
+    table: &[i64],
+) -> Result<(u32, Vec<i64>), u8> {
+    let given = Given { side, table, points, counts, placement, ..Given::default() };
+    given.ask(&rules.building(), rules)?;
+
+    let edges = edges(rules, &placed(rules, placement, points), counts);
     let v_sign = rules.v_sign();
     let mut built = vec![0; table.len()];
     built[0] = edges.iter().map(|edge| edge.shoelace()).sum();

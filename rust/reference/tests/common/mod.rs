@@ -1,5 +1,7 @@
-//! Pseudo-random outlines for the tests, the same at each run.
+//! Pseudo-random outlines and placements for the tests, the same at each run.
 #![allow(dead_code)] // each test file uses a part of this
+
+use reference::Placement;
 
 /// An outline that building accepts.
 #[derive(Clone, Debug)]
@@ -83,6 +85,32 @@ impl Random {
             }
         }
         Outline { side, points, counts, straight: kind == 4 }
+    }
+
+    /// A random placement that lies far from every limit. It leaves points
+    /// whose coordinates are from 300 to 600 on the tile of side 4: at most 600
+    /// × 5/4 + 600 × 1/4 + 40, and at least 300 × 3/4 − 600 × 1/4 − 40. Half of
+    /// the placements are quarters, so that halves are met.
+    pub fn placement(&mut self) -> Placement {
+        let kind = self.below(3);
+        let grain = if self.below(2) == 0 { 16_384 } else { 1 };
+        // A multiple of 1/65,536, the ends given in quarters.
+        let mut float = |low: i64, high: i64| {
+            let parts = low * 16_384 + grain * self.below((high - low) * 16_384 / grain + 1);
+            parts as f64 / 65_536.0
+        };
+        match kind {
+            0 => Placement::Shift(float(-800, 800), float(-800, 800)),
+            1 => Placement::Scale(float(3, 5)),
+            _ => Placement::Turn([
+                float(3, 5),
+                float(-1, 1),
+                float(-160, 160),
+                float(-1, 1),
+                float(3, 5),
+                float(-160, 160),
+            ]),
+        }
     }
 }
 
