@@ -10,6 +10,7 @@ pub mod calls;
 pub mod damage;
 pub mod demand3;
 pub mod outlines;
+pub mod placements;
 pub mod random;
 
 use calls::Difference;

@@ -1,7 +1,10 @@
-//! The two programs as a person runs them: the page of `exact`, and `soak`.
+//! The programs as a person or `draw` runs them: the page of `exact`, `placed`, and `soak`.
+use compare::outlines::Outline;
+use reference::{Placement, Spec};
 use std::fs;
+use std::io::Write;
 use std::path::{Path, PathBuf};
-use std::process::{Command, Output};
+use std::process::{Command, Output, Stdio};
 
 /// A frame of side 4 with slanted edges and a hole, at level 2.
 const FRAME: &str = "0402\n00100020038003c00040030001000020\n0100010001800100010a01a0\n";
@@ -14,7 +17,7 @@ fn folder(test: &str) -> (PathBuf, Vec<PathBuf>) {
     let answer = |level| {
         let path = folder.join(format!("answer-{level}"));
         let text = FRAME.replacen("0402", &format!("040{level}"), 1);
-        fs::write(&path, reference::tile_program(&reference::Spec, text.as_bytes())).unwrap();
+        fs::write(&path, reference::tile_program(&Spec, text.as_bytes())).unwrap();
         path
     };
     let answers = (0..3).map(answer).collect();
@@ -77,6 +80,75 @@ fn wrong_answers_are_told() {
         assert_eq!(text(&output.stderr).lines().count(), 1);
     }
     assert_eq!(exact(&folder, &answers[..2]).status.code(), Some(2));
+}
+
+/// A placement that keeps the frame's outline on its tile, smaller, askew and with fractions to round, and its words.
+const TURN: Placement = Placement::Turn([0.875, 0.0625, 32.5, -0.0625, 0.875, 64.0]);
+const TURN_WORDS: [&str; 7] = ["--turn", "0.875", ".0625", "32.5", "-0.0625", "+0.875", "64"];
+
+fn placed(words: &[&str], frame: &str) -> Output {
+    let mut placed = Command::new(env!("CARGO_BIN_EXE_placed"));
+    let mut running =
+        placed.args(words).stdin(Stdio::piped()).stdout(Stdio::piped()).stderr(Stdio::piped()).spawn().unwrap();
+    // where its words are wrong it does not read, and the pipe may be closed already
+    let _ = running.stdin.take().unwrap().write_all(frame.as_bytes());
+    running.wait_with_output().unwrap()
+}
+
+/// What the tile program prints for the frame, at this level, of the outline as placed.
+fn expected(placement: Placement, level: u32) -> String {
+    let frame = reference::frame(FRAME.as_bytes()).unwrap();
+    let points = reference::placed(&Spec, placement, &frame.points);
+    let outline = Outline { side: frame.side, points, counts: frame.counts };
+    reference::tile_program(&Spec, outline.frame(level).as_bytes())
+}
+
+#[test]
+fn placed_frames() {
+    let printed = |words: &[&str], frame: &str| {
+        let output = placed(words, frame);
+        assert!(output.status.success() && output.stderr.is_empty(), "{words:?}: {}", text(&output.stderr));
+        text(&output.stdout)
+    };
+    assert_eq!(printed(&[], FRAME), reference::tile_program(&Spec, FRAME.as_bytes()));
+    assert_eq!(printed(&["--shift", "7.5", "-8"], FRAME), expected(Placement::Shift(7.5, -8.0), 2));
+    assert_eq!(printed(&["--scale", "+.75"], FRAME), expected(Placement::Scale(0.75), 2));
+    assert_eq!(printed(&TURN_WORDS, FRAME), expected(TURN, 2));
+    for (words, frame, refused) in [
+        (["--scale", "1"], "0203\n", "refused 07\n"),
+        (["--scale", "1"], "ff00\n", "refused 01\n"),
+        (["--scale", "1"], "0201", "refused 11\n"),
+        (["--scale", "1.3"], "0201\n", "refused 12\n"),
+        (["--scale", "-1"], FRAME, "refused 06\n"),
+    ] {
+        assert_eq!(printed(&words, frame), refused, "{words:?}, {frame:?}");
+    }
+    for words in
+        [&["--scale"][..], &["--scale", "x"], &["--scale", "1", "1"], &["--shift", "1"], &TURN_WORDS[..6], &["--else"]]
+    {
+        let output = placed(words, FRAME);
+        assert_eq!((output.status.code(), text(&output.stdout).as_str()), (Some(2), ""), "{words:?}");
+    }
+}
+
+#[test]
+fn page_of_a_placed_letter() {
+    let (folder, answers) = folder("placed");
+    for (level, answer) in answers.iter().enumerate() {
+        fs::write(answer, expected(TURN, level as u32)).unwrap();
+    }
+    let page = |words: &[&str]| {
+        let mut exact = Command::new(env!("CARGO_BIN_EXE_exact"));
+        exact.arg("a letter").arg(folder.join("frame")).args(words).args(&answers).output().unwrap()
+    };
+    let output = page(&TURN_WORDS);
+    let placed = text(&output.stdout);
+    assert!(output.status.success(), "{placed}{}", text(&output.stderr));
+    assert!(placed.contains("Every miss is within its bound") && placed.contains("of the outline as placed"));
+    // answers to the outline otherwise placed, and a placement without its number
+    for words in [&[][..], &["--scale", "1"], &["--scale"]] {
+        assert_eq!(page(words).status.code(), Some(2), "{words:?}");
+    }
 }
 
 #[test]

@@ -1,19 +1,20 @@
 //! A page that sets what the tile program draws of a frame beside the exact areas, cell by cell. `draw --exact` calls it.
 //!
-//! The greys are the tile program's own answers, one for each level. It prints no areas: these are the library's, which is the same code, and
-//! whose greys must be the program's. The exact areas are the reference's, in exact fractions, and every comparison is made with these;
-//! decimals are for the page alone.
+//! The greys are the tile program's own answers, one for each level, or those of `placed` where the outline is placed first. They print no
+//! areas: these are the library's, which is the same code, and whose greys must be the program's. The exact areas are the reference's, in
+//! exact fractions, and every comparison is made with these; decimals are for the page alone.
 use compare::calls::Difference;
 use compare::outlines::Outline;
-use compare::{demand3, grouped};
-use reference::{Exact, Fraction};
+use compare::{demand3, grouped, placements};
+use reference::{Exact, Fraction, Placement, Spec};
 use std::ffi::{OsStr, OsString};
 use std::fmt::Write as _;
 use std::io::{ErrorKind, Write as _};
 use std::process::ExitCode;
 
-const USAGE: &str = "usage: exact NAME FRAME ANSWER...
-NAME is what the page calls the frame; FRAME is its text; the ANSWERs are what the tile program answers to it at level 0, 1 and so on to the depth";
+const USAGE: &str = "usage: exact NAME FRAME [--shift X Y | --scale S | --turn A B C D E F] ANSWER...
+NAME is what the page calls the frame; FRAME is its text; the ANSWERs are what the tile program answers to it at level 0, 1 and so on to the depth,
+or `placed` where there is a placement";
 
 /// Exit status where something on the page is not as promised.
 const NOT_AS_PROMISED: u8 = 3;
@@ -59,11 +60,15 @@ fn fraction(num: i128, den: i128) -> Exact {
 
 fn main() -> ExitCode {
     let words: Vec<OsString> = std::env::args_os().skip(1).collect();
-    let [name, frame, answers @ ..] = &words[..] else {
+    let read = match &words[..] {
+        [name, frame, rest @ ..] => placements::read(rest).map(|read| (name, frame, read)),
+        _ => None,
+    };
+    let Some((name, frame, (placement, answers))) = read else {
         eprintln!("{USAGE}");
         return ExitCode::from(2);
     };
-    let problem = match page(&name.to_string_lossy(), frame, answers) {
+    let problem = match page(&name.to_string_lossy(), frame, placement, answers) {
         Err(problem) => problem,
         Ok((page, holds)) => match std::io::stdout().write_all(page.as_bytes()) {
             Ok(()) if holds => return ExitCode::SUCCESS,
@@ -76,13 +81,15 @@ fn main() -> ExitCode {
     ExitCode::from(2)
 }
 
-fn page(name: &str, frame: &OsStr, answers: &[OsString]) -> Result<(String, bool), String> {
+fn page(name: &str, frame: &OsStr, placement: Placement, answers: &[OsString]) -> Result<(String, bool), String> {
     let read = |path: &OsStr| std::fs::read(path).map_err(|error| format!("{}: {error}", path.display()));
     let frame = reference::frame(&read(frame)?).map_err(|number| format!("{name}: refused {number:02}"))?;
-    let outline = Outline { side: frame.side, points: frame.points, counts: frame.counts };
     let mut table = vec![0; (frame.side as usize).pow(2)];
-    mattuliyan::build(outline.side, &outline.points, &outline.counts, &mut table)
+    let lent = placements::for_library(placement);
+    mattuliyan::build_placed(frame.side, &frame.points, &frame.counts, lent, &mut table)
         .map_err(|refusal| format!("{name}: {refusal}"))?;
+    let points = reference::placed(&Spec, placement, &frame.points);
+    let outline = Outline { side: frame.side, points, counts: frame.counts };
     let mut levels = Vec::new();
     for (level, path) in (0..=outline.depth()).zip(answers) {
         let answer = String::from_utf8(read(path)?).map_err(|error| format!("{}: {error}", path.display()))?;
@@ -96,7 +103,7 @@ fn page(name: &str, frame: &OsStr, answers: &[OsString]) -> Result<(String, bool
     let own = levels.get(frame.level as usize).ok_or(format!("{name}: its tile has no level {}", frame.level))?;
     let area = reference::signed_area(&outline.points, &outline.counts);
     let (summary, holds) = summary(&outline, area, &levels);
-    let page = format!("{}{summary}{}", heading(name, &outline, area), cells(&outline, own));
+    let page = format!("{}{summary}{}", heading(name, placement, &outline, area), cells(&outline, own));
     Ok((page, holds))
 }
 
@@ -124,15 +131,25 @@ fn drawn(outline: &Outline, level: u32, table: &[i64], answer: &str) -> Result<L
     Ok(Level { level, figures, greys, library_greys, exact })
 }
 
-fn heading(name: &str, outline: &Outline, area: i64) -> String {
+fn heading(name: &str, placement: Placement, outline: &Outline, area: i64) -> String {
+    let drawn_by = match placement {
+        Placement::None => String::from(
+            "The greys are what the tile program printed. It prints no areas; these are from the proved library, which is the same
+code. ",
+        ),
+        _ => format!(
+            "The greys and the drawn areas are from the proved library, of the outline as placed:
+{placement:?}.
+"
+        ),
+    };
     let (side, edges) = (outline.side, grouped(outline.edges().into()));
     let (sign, area) = (if area < 0 { "-" } else { "" }, grouped(area.unsigned_abs()));
     format!(
         "{name}: the drawn letter beside the exact ink
 A tile of {side} x {side} pixels; an outline of {edges} edges; a signed area of {sign}{area} units, 131,072 a pixel.
 
-The greys are what the tile program printed. It prints no areas; these are from the proved library, which is the same
-code. The exact areas and greys were worked out from the outline by another program, another way, in exact fractions;
+{drawn_by}The exact areas and greys were worked out from the outline by another program, another way, in exact fractions;
 decimals are rounded for the page, what is compared is not. A miss is how far a drawn area is from the exact one. It
 is proved never to pass its bound, which is just under half a unit for each edge, less at coarse levels and none at
 the coarsest: ratio 1 would be the bound itself. A grey may be one from the exact area's, never two.
