@@ -1,6 +1,7 @@
 //! One call of the library beside the same call of the reference: equal answers, equal buffers afterwards, and nothing else written.
+use crate::placements;
 use mattuliyan::Refusal;
-use reference::Rules;
+use reference::{Placement, Rules};
 use std::fmt::{Debug, Display, Formatter};
 
 /// What is answered or left otherwise than the reference says, in words.
@@ -22,14 +23,47 @@ pub fn build(
     held: &[i64],
 ) -> Result<Result<(u32, Vec<i64>), u8>, Difference> {
     let expected = reference::build(rules, side, points, counts, held);
+    built("build", points, counts, held, &expected, |points, counts, table| {
+        mattuliyan::build(side, points, counts, table)
+    })
+}
+
+/// Building with a placement, likewise: by its type, and by its numbers, which can be lent between margins.
+pub fn build_placed(
+    rules: &dyn Rules,
+    side: u32,
+    points: &[i64],
+    counts: &[u32],
+    placement: Placement,
+    held: &[i64],
+) -> Result<Result<(u32, Vec<i64>), u8>, Difference> {
+    let expected = reference::build_placed(rules, side, points, counts, placement, held);
+    let numbers = placements::numbers(placement);
+    let lent = Guarded::new(&numbers);
+    let by_numbers = built("build_by_numbers", points, counts, held, &expected, |points, counts, table| {
+        mattuliyan::build_by_numbers(side, points, counts, lent.get(), table)
+    });
+    lent.same("the numbers after build_by_numbers", &numbers)?;
+    by_numbers.and(built("build_placed", points, counts, held, &expected, |points, counts, table| {
+        mattuliyan::build_placed(side, points, counts, placements::for_library(placement), table)
+    }))
+}
+
+fn built(
+    name: &str,
+    points: &[i64],
+    counts: &[u32],
+    held: &[i64],
+    expected: &Result<(u32, Vec<i64>), u8>,
+    call: impl FnOnce(&[i64], &[u32], &mut [i64]) -> Result<u32, Refusal>,
+) -> Result<Result<(u32, Vec<i64>), u8>, Difference> {
     let (lent_points, lent_counts, mut table) = (Guarded::new(points), Guarded::new(counts), Guarded::new(held));
-    let answer = mattuliyan::build(side, lent_points.get(), lent_counts.get(), table.get_mut());
-    let answer = answer.map_err(Refusal::number);
-    lent_points.same("the points after build", points)?;
-    lent_counts.same("the counts after build", counts)?;
+    let answer = call(lent_points.get(), lent_counts.get(), table.get_mut()).map_err(Refusal::number);
+    lent_points.same(&format!("the points after {name}"), points)?;
+    lent_counts.same(&format!("the counts after {name}"), counts)?;
     let answered = expected.as_ref().map(|&(edges, _)| edges).map_err(|&number| number);
-    same("what build answers", &answer, &answered)?;
-    table.same("the table after build", expected.as_ref().map_or(held, |(_, table)| table))?;
+    same(&format!("what {name} answers"), &answer, &answered)?;
+    table.same(&format!("the table after {name}"), expected.as_ref().map_or(held, |(_, table)| table))?;
     Ok(answer.map(|edges| (edges, table.get().to_vec())))
 }
 
@@ -90,39 +124,49 @@ fn picture<T: Element>(
 }
 
 /// Elements of the buffers that are lent.
-trait Element: Copy + PartialEq + Debug {
-    /// What stands around a buffer. No call writes it as its answer; and where a coordinate, a count or an entry can be refused, it is one that
-    /// is, so that reading it shows.
+trait Element: Copy + Debug {
+    /// What stands around a buffer. No call writes it as its answer; and where a coordinate, a count, an entry or a number of a placement can be
+    /// refused, it is one that is, so that reading it shows.
     const MARK: Self;
-    fn low_bits(self) -> usize;
+    /// Elements are compared by their bits: a float that is not a number is not equal to itself.
+    fn bits(self) -> u64;
 }
 
 impl Element for u8 {
     const MARK: u8 = 0xa5;
-    fn low_bits(self) -> usize {
+    fn bits(self) -> u64 {
         self.into()
     }
 }
 
 impl Element for u32 {
     const MARK: u32 = u32::MAX;
-    fn low_bits(self) -> usize {
-        self as usize
+    fn bits(self) -> u64 {
+        self.into()
     }
 }
 
 impl Element for i64 {
     const MARK: i64 = i64::MIN;
-    fn low_bits(self) -> usize {
-        self as u32 as usize
+    fn bits(self) -> u64 {
+        self as u64
+    }
+}
+
+impl Element for f64 {
+    const MARK: f64 = f64::NAN;
+    fn bits(self) -> u64 {
+        self.to_bits()
     }
 }
 
 /// Elements on each side of a buffer, at the least. The widest store of a processor is 64 bytes, so one that begins in the buffer or at its end
 /// does not reach past the margin.
 const MARGIN: usize = 64;
-/// There are up to so many more before it, told from what is in it, so that buffers have every alignment.
-const SHIFTS: usize = 16;
+/// There are up to 2^4 − 1 more before it, told from what is in it, so that buffers have every alignment.
+const SHIFT_BITS: u32 = 4;
+/// Odd, with its bits well mixed: the highest bits of a product with it depend on all bits of the other factor.
+const MIXER: u64 = 0x9e37_79b9_7f4a_7c15;
 
 /// A copy of a list, to be lent between two margins: a write past its ends shows, and a read that is made use of.
 struct Guarded<T> {
@@ -133,8 +177,9 @@ struct Guarded<T> {
 
 impl<T: Element> Guarded<T> {
     fn new(list: &[T]) -> Guarded<T> {
-        let mixed = list.iter().take(8).fold(list.len(), |sum, element| sum.wrapping_mul(31) ^ element.low_bits());
-        let first = MARGIN + mixed % SHIFTS;
+        let mixed =
+            list.iter().take(8).fold(list.len() as u64, |sum, element| (sum ^ element.bits()).wrapping_mul(MIXER));
+        let first = MARGIN + (mixed >> (u64::BITS - SHIFT_BITS)) as usize;
         let all = [&vec![T::MARK; first], list, &[T::MARK; MARGIN]].concat();
         Guarded { all, first, length: list.len() }
     }
@@ -150,7 +195,7 @@ impl<T: Element> Guarded<T> {
     /// Is this the list now, and is nothing written around it?
     fn same(&self, what: &str, expected: &[T]) -> Result<(), Difference> {
         let after = &self.all[self.first + self.length..];
-        if self.all[..self.first].iter().chain(after).any(|&element| element != T::MARK) {
+        if self.all[..self.first].iter().chain(after).any(|&element| element.bits() != T::MARK.bits()) {
             return Err(Difference(format!("{what}: something is written outside it")));
         }
         same_list(what, self.get(), expected)
@@ -161,16 +206,23 @@ fn same<T: PartialEq + Debug>(what: &str, found: &T, expected: &T) -> Result<(),
     if found == expected {
         Ok(())
     } else {
-        Err(Difference(format!("{what}: {found:?}, where the reference has {expected:?}")))
+        different(what, found, expected)
     }
 }
 
-fn same_list<T: PartialEq + Debug>(what: &str, found: &[T], expected: &[T]) -> Result<(), Difference> {
+fn different<T: Debug>(what: &str, found: &T, expected: &T) -> Result<(), Difference> {
+    Err(Difference(format!("{what}: {found:?}, where the reference has {expected:?}")))
+}
+
+fn same_list<T: Element>(what: &str, found: &[T], expected: &[T]) -> Result<(), Difference> {
     same(&format!("the length of {what}"), &found.len(), &expected.len())?;
-    match (0..found.len()).find(|&i| found[i] != expected[i]) {
-        None => Ok(()),
-        Some(i) => same(&format!("{what}, entry {i}"), &found[i], &expected[i]),
+    // without a way out of the loop, several are compared at once
+    let pairs = || found.iter().zip(expected).map(|(one, other)| one.bits() ^ other.bits());
+    if pairs().fold(0, |bits, more| bits | more) == 0 {
+        return Ok(());
     }
+    let i = pairs().position(|bits| bits != 0).expect("some bit differs");
+    different(&format!("{what}, entry {i}"), &found[i], &expected[i])
 }
 
 #[cfg(test)]
@@ -194,13 +246,20 @@ mod tests {
     #[test]
     fn buffers_have_every_alignment() {
         let begins: std::collections::BTreeSet<usize> = (0..=255u8).map(|byte| Guarded::new(&[byte]).first).collect();
-        assert_eq!(begins.len(), SHIFTS);
+        assert_eq!(begins.len(), 1 << SHIFT_BITS);
+        // numbers of a placement have no low bits
+        let begins: std::collections::BTreeSet<usize> =
+            (0..=255).map(|n| Guarded::new(&[f64::from(n)]).first).collect();
+        assert_eq!(begins.len(), 1 << SHIFT_BITS);
     }
 
     #[test]
     fn different_lists_are_seen() {
-        assert!(same_list("lists", &[1, 2], &[1, 2]).is_ok());
-        assert!(same_list("lists", &[1, 2], &[1, 3]).is_err());
-        assert!(same_list("lists", &[1, 2], &[1, 2, 3]).is_err());
+        assert!(same_list("lists", &[1u8, 2], &[1, 2]).is_ok());
+        assert!(same_list("lists", &[1u8, 2], &[1, 3]).is_err());
+        assert!(same_list("lists", &[1u8, 2], &[1, 2, 3]).is_err());
+        assert!(same_list("lists", &[f64::NAN], &[f64::NAN]).is_ok());
+        assert!(same_list("lists", &[f64::NAN], &[-f64::NAN]).is_err());
+        assert!(same_list("lists", &[0.0], &[-0.0]).is_err());
     }
 }

@@ -1,7 +1,8 @@
 //! Calls that may be refused: sound ones with some part damaged, often two parts, so that the order of the questions matters.
 use crate::outlines::{Outline, MOST_EDGES, SIDES};
+use crate::placements::{self, FACTOR, HIGHEST, LOWEST, OFFSET, PART};
 use crate::random::Random;
-use reference::{Limits, STEPS};
+use reference::{Limits, Placement, STEPS};
 
 /// Question 9: an entry's limit, either way.
 pub const ENTRY_LIMIT: i64 = Limits::SPEC.largest_entry;
@@ -25,6 +26,32 @@ const ENTRIES: [i64; 9] = [
     -(1 << 62),
     i64::MIN,
     i64::MAX,
+];
+
+/// Coordinates at the ends of those that are moved, and past them by little and by much.
+const REACHES: [i64; 8] = [LOWEST - 1, LOWEST, HIGHEST, HIGHEST + 1, 1 << 16, 1 << 32, i64::MIN, i64::MAX];
+/// Numbers of a placement at the limits and past them by little and by much, numbers between two 65,536ths, and what is no number.
+const FLOATS: [f64; 20] = [
+    0.0,
+    PART,
+    PART / 2.0,
+    0.1,
+    1.0 + f64::EPSILON,
+    1.0 + PART / 2.0,
+    FACTOR - PART / 2.0,
+    FACTOR,
+    FACTOR + PART,
+    FACTOR + 0.5,
+    2.0 * FACTOR,
+    OFFSET - PART / 2.0,
+    OFFSET,
+    OFFSET + PART,
+    2.0 * OFFSET,
+    f64::MIN_POSITIVE / 2.0, // subnormal
+    f64::MIN_POSITIVE,
+    f64::MAX,
+    f64::INFINITY,
+    f64::NAN,
 ];
 
 pub struct Building {
@@ -55,11 +82,15 @@ pub fn table_in_range(random: &mut Random, length: usize) -> Vec<i64> {
     (0..length).map(|_| if extreme { random.pick(&[limit, -limit]) } else { random.within(-limit, limit) }).collect()
 }
 
+/// Building an outline, undamaged.
+fn sound(random: &mut Random, outline: &Outline) -> Building {
+    let table = any_table(random, (outline.side * outline.side) as usize);
+    Building { side: outline.side, points: outline.points.clone(), counts: outline.counts.clone(), table }
+}
+
 /// Building an outline, damaged in one or two parts. (Not every damage shows: a coordinate may stay on the tile.)
 pub fn building(random: &mut Random, outline: &Outline) -> Building {
-    let table = any_table(random, (outline.side * outline.side) as usize);
-    let mut call =
-        Building { side: outline.side, points: outline.points.clone(), counts: outline.counts.clone(), table };
+    let mut call = sound(random, outline);
     for _ in 0..random.within(1, 2) {
         match random.index(9) {
             0 => no_side(random, &mut call.side, &mut call.table),
@@ -82,6 +113,25 @@ pub fn building(random: &mut Random, outline: &Outline) -> Building {
         }
     }
     call
+}
+
+/// Building an outline from points that are placed, damaged in the placement or in what it moves, and now and then as any building can be.
+pub fn placing(random: &mut Random, outline: &Outline) -> (Building, Placement) {
+    let (placement, points) = placements::onto_the_tile(random, outline);
+    let before = Outline { points, ..outline.clone() };
+    let mut call = if random.once_in(4) { building(random, &before) } else { sound(random, &before) };
+    let mut numbers = placements::numbers(placement);
+    for _ in 0..random.within(1, 2) {
+        match random.index(8) {
+            0..5 => {
+                let (float, any) = (random.pick(&FLOATS), f64::from_bits(random.number()));
+                put(random, &mut numbers, [float, -float, any]);
+            }
+            5..7 => put(random, &mut call.points, REACHES),
+            _ => (call.points, call.counts) = (Vec::new(), Vec::new()),
+        }
+    }
+    (call, placements::of_numbers(&numbers))
 }
 
 /// Counts that add up to just what is allowed, or to one more, with their points.

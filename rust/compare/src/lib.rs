@@ -4,8 +4,8 @@
 //! wanted. The library is called through C; the reference was written from 01 alone and works by another method.
 //!
 //! A run is a list of cases, each made from the run's seed and its own number, so that any of them can be tried again alone. A case takes one
-//! accepted outline through building and every drawing call at every level ([`calls`]), holds what is drawn to demand 3 with exact areas
-//! ([`demand3`]), and makes some calls that may be refused ([`damage`]).
+//! accepted outline through building and every drawing call at every level ([`calls`]), and one like it that is placed first ([`placements`]),
+//! holds what is drawn to demand 3 with exact areas ([`demand3`]), and makes some calls that may be refused ([`damage`]).
 pub mod calls;
 pub mod damage;
 pub mod demand3;
@@ -17,7 +17,7 @@ use calls::Difference;
 use demand3::Worst;
 use outlines::{Outline, SIDES};
 use random::Random;
-use reference::Rules;
+use reference::{Placement, Rules, Spec};
 use std::panic::{catch_unwind, AssertUnwindSafe};
 use std::sync::atomic::{AtomicU64, Ordering};
 
@@ -27,8 +27,11 @@ const LARGE_ONE_IN: u64 = 100;
 /// Cells that are drawn one by one in a level with more than these; in a smaller level all are.
 const CELLS_ALONE: usize = 64;
 
-/// Calls that may be refused, of building and of drawing each, in a case.
+/// Calls that may be refused, of building, of building with a placement and of drawing each, in a case.
 const DAMAGED_CALLS: u32 = 2;
+
+/// Numbers of answers: 0 is the work done; 11 is the tile program's own and is not answered here.
+pub const ANSWERS: usize = 13;
 
 /// What a run has seen.
 #[derive(Default)]
@@ -41,12 +44,14 @@ pub struct Seen {
     pub empty: u64,
     /// outlines with the most edges, by the depth of their tile
     pub largest: [u64; SIDES.len()],
+    /// outlines that were drawn as placed: not moved, shifted, scaled, turned
+    pub placed: [u64; 4],
     /// cells whose figure and grey were held to exact areas
     pub cells: u64,
     pub greys_one_apart: u64,
     pub calls: u64,
-    /// calls by the number that was answered; 0 is the work done
-    pub answered: [u64; 11],
+    /// calls by the number that was answered
+    pub answered: [u64; ANSWERS],
     pub worst: Option<Worst>,
 }
 
@@ -57,6 +62,7 @@ impl Seen {
         self.edges += other.edges;
         self.empty += other.empty;
         self.largest.iter_mut().zip(other.largest).for_each(|(mine, more)| *mine += more);
+        self.placed.iter_mut().zip(other.placed).for_each(|(mine, more)| *mine += more);
         self.cells += other.cells;
         self.greys_one_apart += other.greys_one_apart;
         self.calls += other.calls;
@@ -90,10 +96,11 @@ impl std::fmt::Display for Seen {
     fn fmt(&self, to: &mut std::fmt::Formatter) -> std::fmt::Result {
         write!(
             to,
-            "{} outlines ({} octilinear) with {} edges, {} cells, {} greys one apart; {} calls, {} refused; worst miss ",
+            "{} outlines ({} octilinear) with {} edges, {} placed outlines, {} cells, {} greys one apart; {} calls, {} refused; worst miss ",
             grouped(self.outlines),
             grouped(self.octilinear),
             grouped(self.edges),
+            grouped(self.placed.iter().sum()),
             grouped(self.cells),
             grouped(self.greys_one_apart),
             grouped(self.calls),
@@ -122,8 +129,10 @@ pub fn case(rules: &dyn Rules, seed: u64, number: u64, seen: &mut Seen) -> Resul
     let large = (number / SIDES.len() as u64).is_multiple_of(LARGE_ONE_IN);
     let outline = outlines::outline(random, side, large);
     from_outline_to_pictures(rules, random, &outline, seen)?;
+    from_placed_to_pictures(rules, random, &outline, seen)?;
     for _ in 0..DAMAGED_CALLS {
         damaged_building(rules, random, &outline, seen)?;
+        damaged_placing(rules, random, &outline, seen)?;
         damaged_drawing(rules, random, side, seen)?;
     }
     any_pictures(rules, random, side, seen)
@@ -149,15 +158,59 @@ pub fn from_outline_to_pictures(
     seen.largest[outline.depth() as usize] += (edges == outlines::MOST_EDGES) as u64;
     for level in 0..=outline.depth() {
         let (figures, greys) = pictures(rules, random, side, level, &table, seen)?;
-        let looked = demand3::near(outline, level, area, &figures, &greys)?;
-        seen.cells += looked.cells;
-        seen.greys_one_apart += looked.greys_one_apart;
-        seen.consider(looked.worst);
+        hold_to_demand3(outline, level, area, &figures, &greys, seen)?;
+        cells_alone(rules, random, side, level, &table, &figures, seen)?;
     }
     Ok(())
 }
 
-/// Draws a level of a table as figures, as greys, and cell by cell.
+/// Builds an outline much like this one from points that are placed, draws every level, and holds it to demand 3 of the points as placed. (Not
+/// cell by cell: to a table it makes no difference how it was built.)
+fn from_placed_to_pictures(
+    rules: &dyn Rules,
+    random: &mut Random,
+    outline: &Outline,
+    seen: &mut Seen,
+) -> Result<(), Difference> {
+    let (placement, points) = placements::onto_the_tile(random, outline);
+    let placed = Outline { points: reference::placed(&Spec, placement, &points), ..outline.clone() };
+    let Outline { side, ref counts, .. } = placed;
+    let held = damage::any_table(random, (side * side) as usize);
+    let Some((_, table)) = seen.answer(calls::build_placed(rules, side, &points, counts, placement, &held)?) else {
+        return Err(Difference("an accepted outline is refused with its placement".to_string()));
+    };
+    let kind = match placement {
+        Placement::None => 0,
+        Placement::Shift(..) => 1,
+        Placement::Scale(_) => 2,
+        Placement::Turn(_) => 3,
+    };
+    seen.placed[kind] += 1;
+    let area = reference::signed_area(&placed.points, counts);
+    for level in 0..=placed.depth() {
+        let (figures, greys) = pictures(rules, random, side, level, &table, seen)?;
+        hold_to_demand3(&placed, level, area, &figures, &greys, seen)?;
+    }
+    Ok(())
+}
+
+/// Holds a level of an outline to demand 3; `area` is the outline's signed area.
+fn hold_to_demand3(
+    outline: &Outline,
+    level: u32,
+    area: i64,
+    figures: &[i64],
+    greys: &[u8],
+    seen: &mut Seen,
+) -> Result<(), Difference> {
+    let looked = demand3::near(outline, level, area, figures, greys)?;
+    seen.cells += looked.cells;
+    seen.greys_one_apart += looked.greys_one_apart;
+    seen.consider(looked.worst);
+    Ok(())
+}
+
+/// Draws a level of a table as figures and as greys.
 fn pictures(
     rules: &dyn Rules,
     random: &mut Random,
@@ -166,30 +219,42 @@ fn pictures(
     table: &[i64],
     seen: &mut Seen,
 ) -> Result<(Vec<i64>, Vec<u8>), Difference> {
-    let across = 1usize << level;
-    let places = across * across;
-    let held: Vec<i64> = damage::any_table(random, places);
+    let held: Vec<i64> = damage::any_table(random, 1 << (2 * level));
     let bytes: Vec<u8> = held.iter().map(|&entry| entry as u8).collect();
     let figures = seen.answer(calls::figures(rules, side, level, table, &held)?);
     let greys = seen.answer(calls::greys(rules, side, level, table, &bytes)?);
     let (Some(figures), Some(greys)) = (figures, greys) else {
         return Err(Difference(format!("a picture of level {level} is refused")));
     };
-    for i in 0..places.min(CELLS_ALONE) {
-        let at = if places <= CELLS_ALONE { i } else { random.index(places) };
-        let (cx, cy) = ((at % across) as u32, (at / across) as u32);
+    Ok((figures, greys))
+}
+
+/// Draws cells of a level one by one: all, or some where there are many.
+fn cells_alone(
+    rules: &dyn Rules,
+    random: &mut Random,
+    side: u32,
+    level: u32,
+    table: &[i64],
+    figures: &[i64],
+    seen: &mut Seen,
+) -> Result<(), Difference> {
+    for i in 0..figures.len().min(CELLS_ALONE) {
+        let at = if figures.len() <= CELLS_ALONE { i } else { random.index(figures.len()) };
+        let (cx, cy) = (at as u32 % (1 << level), at as u32 >> level);
         if seen.answer(calls::cell(rules, side, level, cx, cy, table)?) != Some(figures[at]) {
             return Err(Difference(format!("level {level}: cell ({cx}, {cy}) alone is not the picture's")));
         }
     }
-    Ok((figures, greys))
+    Ok(())
 }
 
 /// Every level of a table that no outline need have, its entries up to the limit.
 fn any_pictures(rules: &dyn Rules, random: &mut Random, side: u32, seen: &mut Seen) -> Result<(), Difference> {
     let table = damage::table_in_range(random, (side * side) as usize);
     for level in 0..=side.trailing_zeros() {
-        pictures(rules, random, side, level, &table, seen)?;
+        let (figures, _) = pictures(rules, random, side, level, &table, seen)?;
+        cells_alone(rules, random, side, level, &table, &figures, seen)?;
     }
     Ok(())
 }
@@ -202,6 +267,17 @@ fn damaged_building(
 ) -> Result<(), Difference> {
     let call = damage::building(random, outline);
     seen.answer(calls::build(rules, call.side, &call.points, &call.counts, &call.table)?);
+    Ok(())
+}
+
+fn damaged_placing(
+    rules: &dyn Rules,
+    random: &mut Random,
+    outline: &Outline,
+    seen: &mut Seen,
+) -> Result<(), Difference> {
+    let (call, placement) = damage::placing(random, outline);
+    seen.answer(calls::build_placed(rules, call.side, &call.points, &call.counts, placement, &call.table)?);
     Ok(())
 }
 
@@ -229,7 +305,7 @@ pub fn run(seed: u64, numbers: std::ops::Range<u64>) -> Result<Seen, (u64, Diffe
         let mut seen = Seen::default();
         let mut number = numbers.start + first;
         while number < end.load(Ordering::Relaxed) {
-            if let Err(difference) = tried(|| case(&reference::Spec, seed, number, &mut seen)) {
+            if let Err(difference) = tried(|| case(&Spec, seed, number, &mut seen)) {
                 end.fetch_min(number, Ordering::Relaxed);
                 return Err((number, difference));
             }

@@ -16,9 +16,9 @@ fn first_difference(rules: &dyn Rules) -> Option<(u64, Difference)> {
 
 #[test]
 fn wrong_references_are_caught() {
-    let wrong = reference::wrong::all();
-    assert!(wrong.len() >= 5);
-    for (name, rules) in wrong {
+    let (of_tiles, of_placements) = (reference::wrong::all(), reference::wrong::of_placement());
+    assert!(of_tiles.len() >= 5 && of_placements.len() >= 5);
+    for (name, rules) in of_tiles.into_iter().chain(of_placements) {
         let (number, difference) =
             first_difference(&*rules).unwrap_or_else(|| panic!("{name}: not caught in {CASES} cases"));
         println!("mutants: {name}: caught in case {number}: {difference}");
