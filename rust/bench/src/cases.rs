@@ -1,7 +1,8 @@
 //! What is measured: our calls, and the same pictures drawn by the other rasterisers.
 
-use crate::inputs::{Input, Outline, DEPTH, EDGES, SIDE};
+use crate::inputs::{Input, Outline, DEPTH, EDGES, GREATEST, SIDE};
 use crate::others::{Library, Rasteriser, LIBRARIES};
+use mattuliyan::{Placement, Refusal};
 use std::hint::black_box;
 use std::ops::RangeInclusive;
 
@@ -25,17 +26,20 @@ impl Size {
 #[derive(Clone, Copy, PartialEq, Debug)]
 pub enum Case {
     Build,
+    /// The same outline, by a quarter turn: as many edges in as many cells, so that what it takes longer is the placement's.
+    BuildPlaced,
     Draw(Size),
     BuildAndDraw(Size),
     Other(Library, Size),
 }
 
-use Case::{Build, BuildAndDraw, Draw, Other};
+use Case::{Build, BuildAndDraw, BuildPlaced, Draw, Other};
 use Size::{All, Full};
 
 /// In the order of the page, those that draw the same under one another.
-pub const CASES: [Case; 9] = [
+pub const CASES: [Case; 10] = [
     Build,
+    BuildPlaced,
     Draw(Full),
     Draw(All),
     BuildAndDraw(Full),
@@ -45,6 +49,9 @@ pub const CASES: [Case; 9] = [
     Other(Library::FreeType, All),
     Other(Library::Agg, All),
 ];
+
+/// A quarter turn of the tile, clockwise: (x, y) goes to (the tile's width − y, x).
+const QUARTER_TURN: Placement = Placement::Turn([0.0, -1.0, GREATEST as f64, 1.0, 0.0, 0.0]);
 
 impl Case {
     /// Those that can be run in this build.
@@ -70,6 +77,7 @@ impl Case {
     pub fn title(self) -> String {
         match self {
             Build => "building the table".into(),
+            BuildPlaced => "building it with a placement, a turn".into(),
             Draw(Full) => "level 6 from the table".into(),
             Draw(All) => "all seven levels from the table".into(),
             BuildAndDraw(Full) => "**building, and level 6**".into(),
@@ -85,6 +93,8 @@ pub struct Work {
     tiles: Vec<Tile>,
     /// The one whose turn it is.
     turn: usize,
+    /// The table of a placed outline, from which nothing is drawn.
+    placed: Vec<i64>,
     /// One for each level, from the single pixel on.
     pictures: Vec<Vec<u8>>,
     others: Vec<(Library, Rasteriser)>,
@@ -100,10 +110,12 @@ impl Work {
     /// The tables are built at once, for the cases that only draw from them.
     pub fn new(input: Input, variants: usize) -> Result<Work, String> {
         let open = |library| Some((library, Rasteriser::open(library)?));
-        let tile = |outline| Tile { outline, table: vec![0; (SIDE * SIDE) as usize] };
+        let table = || vec![0; (SIDE * SIDE) as usize];
+        let tile = |outline| Tile { outline, table: table() };
         let mut work = Work {
             tiles: input.outlines(variants).into_iter().map(tile).collect(),
             turn: 0,
+            placed: table(),
             pictures: (0..=DEPTH).map(|level| vec![0; cells(level)]).collect(),
             others: LIBRARIES.into_iter().filter_map(open).collect(),
         };
@@ -124,6 +136,7 @@ impl Work {
     fn run(&mut self, case: Case) -> Result<(), String> {
         match case {
             Build => self.build(),
+            BuildPlaced => self.build_placed(),
             Draw(size) => self.draw(size),
             BuildAndDraw(size) => {
                 self.build()?;
@@ -137,10 +150,14 @@ impl Work {
         let Tile { outline, table } = black_box(&mut self.tiles[self.turn]);
         let edges = mattuliyan::build(SIDE, &outline.points, &outline.counts, table);
         black_box(table);
-        match edges {
-            Ok(edges) if edges as usize == EDGES => Ok(()),
-            other => Err(format!("build answered {other:?}")),
-        }
+        all_edges(edges)
+    }
+
+    fn build_placed(&mut self) -> Result<(), String> {
+        let (outline, table) = black_box((&self.tiles[self.turn].outline, &mut self.placed));
+        let edges = mattuliyan::build_placed(SIDE, &outline.points, &outline.counts, QUARTER_TURN, table);
+        black_box(table);
+        all_edges(edges)
     }
 
     fn draw(&mut self, size: Size) -> Result<(), String> {
@@ -196,6 +213,14 @@ impl Work {
     }
 }
 
+/// Is this what building is to answer?
+fn all_edges(answer: Result<u32, Refusal>) -> Result<(), String> {
+    match answer {
+        Ok(edges) if edges as usize == EDGES => Ok(()),
+        other => Err(format!("building answered {other:?}")),
+    }
+}
+
 /// Is a figure negative by half a grey or more? A little less than 0 may come from rounding alone.
 fn is_negative(figure: i64) -> bool {
     const UNITS_PER_PIXEL: i64 = 131_072;
@@ -231,12 +256,28 @@ mod tests {
                 }
                 let levels = drawn.into_iter().filter(|&drawn| drawn).count();
                 let expected = match case {
-                    Build => 0,
+                    Build | BuildPlaced => 0,
                     Draw(Full) | BuildAndDraw(Full) | Other(_, Full) => 1,
                     Draw(All) | BuildAndDraw(All) | Other(_, All) => 7,
                 };
                 assert_eq!(levels, expected, "{input:?}, {case:?}");
             }
+        }
+    }
+
+    #[test]
+    fn a_placed_outline_is_the_same_on_its_side() {
+        let mut work = Work::new(Input::Letter, 1).unwrap();
+        work.run_all(BuildPlaced).unwrap();
+        let drawn = |table: &[i64]| {
+            let mut picture = vec![0; cells(DEPTH)];
+            mattuliyan::greys(SIDE, DEPTH, table, &mut picture).unwrap();
+            picture
+        };
+        let (upright, side) = (drawn(&work.tiles[0].table), SIDE as usize);
+        for (at, grey) in drawn(&work.placed).into_iter().enumerate() {
+            let (x, y) = (at % side, at / side);
+            assert!(grey.abs_diff(upright[(side - 1 - x) * side + y]) <= 1, "({x}, {y})");
         }
     }
 

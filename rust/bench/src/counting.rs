@@ -94,7 +94,8 @@ mod tests {
 
     #[test]
     fn other_words_are_refused() {
-        for words in [&[][..], &["2", "0", "1"], &["0", "9", "1"], &["0", "0"], &["0", "0", "x"]] {
+        let past_all = CASES.len().to_string();
+        for words in [&[][..], &["2", "0", "1"], &["0", &past_all, "1"], &["0", "0"], &["0", "0", "x"]] {
             assert!(run_counted(&arguments(words)).is_err(), "{words:?}");
         }
     }

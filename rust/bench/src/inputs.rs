@@ -16,7 +16,7 @@ pub const VARIANTS: usize = 16;
 const STEPS_PER_PIXEL: f64 = 256.0;
 
 /// The greatest coordinate.
-const GREATEST: u64 = 256 * SIDE as u64;
+pub const GREATEST: u64 = 256 * SIDE as u64;
 
 /// x and y of each point in turn, and how many points each contour has.
 pub struct Outline {
