@@ -8,7 +8,7 @@
 --   placed-none-as-built         with no placement they are building's, for every input
 --   placed-faithful              and what is left is drawn as `FaithfulOutline` says of the outline as placed
 use mathlib.Core.Path.{_≡_, sym, _∙_, ap, ap₂}
-use mathlib.Core.Bool.{Bool, true, cond}
+use mathlib.Core.Bool.{Bool}
 use mathlib.Core.List.{List, [], _∷_}
 use Prim.Native.Nat.{ℕ, _*_}
 use lib.Dec.{eqb}
@@ -20,7 +20,7 @@ use Rattle.placement.specs.Placed.{placed}
 use Rattle.placement.specs.Laws.PlacedPoints.{placed-none, placed-length}
 use Rattle.accuracy.specs.Outline.{edgeCount}
 use Rattle.tile.specs.declared.Built.{Built}
-use Rattle.tile.specs.Questions.{Question, Yes, firstNo, question1, question2, question3, question4, question5, question6, question12}
+use Rattle.tile.specs.Questions.{Yes, firstNo, question1, question2, question3, question4, question5, question6, question12}
 use Rattle.tile.specs.Outcomes.{ifDone, tableOf, buildRefusal, buildResult, buildTable, placedRefusal, placedResult, placedTable}
 use Rattle.tile.specs.Faithful.{FaithfulOutline}
 use Rattle.tile.specs.Theorem.{outline-faithful}

@@ -1,5 +1,5 @@
 -- Building with no placement: nothing moves, and the questions are building's.
-use mathlib.Core.Path.{_≡_, refl, _∙_, subst⁻¹}
+use mathlib.Core.Path.{refl, _∙_, subst⁻¹}
 use borrow.Author.Needs.{needs}
 use Rattle.tile.specs.Faithful.{Faithful}
 use Rattle.tile.specs.Theorem.{faithful}

@@ -23,7 +23,7 @@ use Rattle.accuracy.specs.Tile.{cellWidth}
 use Rattle.accuracy.specs.Accurate.{Accurate}
 use Rattle.accuracy.specs.Theorem.{outline-accurate}
 use Rattle.accuracy.specs.Laws.Coordinates.{contoursOf-count, OnSide, contoursOf-on-tile}
-use Rattle.tile.specs.Questions.{Yes, depthOf, question1, question2, question3, question5, question6}
+use Rattle.tile.specs.Questions.{Yes, depthOf, question1, question2, question5, question6}
 use Rattle.tile.specs.Outcomes.{edgesOf, buildRefusal, placedRefusal}
 use Rattle.tile.specs.Refusals.{building-refusals, placed-refusals, question2-means, question3-means, question5-means, question6-means}
 use Rattle.tile.specs.Laws.Sides.{side-power}
