@@ -271,6 +271,18 @@ fn clear(table: &mut [i64])
     }
 }
 
+// Builds the table of an outline on a tile: `points` has x and y of each point in turn, in 1/256 pixel, and `counts` how many points each contour
+// has. The answer is 0 and the edge count; whatever the table held before, it holds the outline's afterwards. Or it is the number of the first
+// question that is answered no, and 0, and the table is as it was.
+pub fn build(side: u32, points: &[i64], counts: &[u32], table: &mut [i64]) -> Built
+    ensures { λ r. ⌜ r ≡ buildResult side (now (points .entry)) (now (counts .entry)) (now (table .entry)) ⌝ }
+    ensures { λ _. ⌜ now (table .exit) ≡ buildTable side (now (points .entry)) (now (counts .entry)) (now (table .entry)) ⌝ }
+    ensures { λ _. ⌜ Faithful side (now (points .entry)) (now (counts .entry)) (now (table .entry)) (now (table .exit)) ⌝ }
+    ensures { λ _. ⌜ (now (points .exit) ≡ now (points .entry)) × (now (counts .exit) ≡ now (counts .entry)) ⌝ }
+{
+    build_placed(side, points, counts, Placement::None, table)
+}
+
 // Builds the table of an outline on a tile, as placed: `points` has x and y of each point in turn, in 1/256 pixel, and `counts` how many points each
 // contour has. The answer is 0 and the edge count; whatever the table held before, it holds the table of the outline as placed afterwards. Or it is the
 // number of the first question that is answered no, and 0, and the table is as it was.
@@ -296,18 +308,6 @@ pub fn build_placed(
         number: DONE,
         edges: edges_of(counts) as u32,
     }
-}
-
-// Builds the table of an outline on a tile: `points` has x and y of each point in turn, in 1/256 pixel, and `counts` how many points each contour
-// has. The answer is 0 and the edge count; whatever the table held before, it holds the outline's afterwards. Or it is the number of the first
-// question that is answered no, and 0, and the table is as it was.
-pub fn build(side: u32, points: &[i64], counts: &[u32], table: &mut [i64]) -> Built
-    ensures { λ r. ⌜ r ≡ buildResult side (now (points .entry)) (now (counts .entry)) (now (table .entry)) ⌝ }
-    ensures { λ _. ⌜ now (table .exit) ≡ buildTable side (now (points .entry)) (now (counts .entry)) (now (table .entry)) ⌝ }
-    ensures { λ _. ⌜ Faithful side (now (points .entry)) (now (counts .entry)) (now (table .entry)) (now (table .exit)) ⌝ }
-    ensures { λ _. ⌜ (now (points .exit) ≡ now (points .entry)) × (now (counts .exit) ≡ now (counts .entry)) ⌝ }
-{
-    build_placed(side, points, counts, Placement::None, table)
 }
 
 // Draws the figures of a level. The answer is 0, and the picture has them row by row, whatever it held before. Or it is the number of the first
