@@ -102,11 +102,11 @@ abbrev pub textLimit : ℕ
 textLimit = 16384
 
 -- ---- placements (02, P1): "Every float handed in must be a multiple of 1/65,536". A part is that much; the product of a factor and a coordinate, and
--- a sum of these, then has few enough of them for a 64-bit float to hold each one exactly.
+-- a sum of these, then has few enough of them for a 64-bit float to hold it exactly.
 abbrev pub partsPerStep : ℕ
 partsPerStep = 65536
 
--- "factors (a, b, d, e) lie from −2 to 2": a sheet is straightened, and at most doubled in size
+-- "factors (a, b, d, e) lie from −2 to 2": no coordinate counts more than twice
 abbrev pub factorLimit : ℕ
 factorLimit = 2
 

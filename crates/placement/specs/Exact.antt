@@ -1,5 +1,6 @@
 -- "Every product and sum is then exact, and that is to be proved." One field for each operation of 64-bit floats that the code makes, in the code's
--- order, over IEEE 754's binary64: the float that the machine gets is the exact quotient.
+-- order, over IEEE 754's binary64: the float that the machine gets has the exact value. `turned` and `in_parts` of the code promise that they
+-- answer the floats that are spoken of here.
 --
 -- Definitions
 --   turned a b c x y                     a × x + b × y + c as the machine works it out
@@ -22,7 +23,7 @@ use lib.IntN.{ℤ, pos, natAbs, _+ℤ_, _*ℤ_}
 use lib.Ieee.{Float, binary64, fits, ofInt, mul, add, toSigned}
 use lib.Ieee.Fits.{add-fits}
 use Rattle.integers.specs.Units.{partsPerStep, factorLimit, offsetLimit, movableLimit, placedLimit}
-use Rattle.placement.specs.Parts.{Value, partsOf, isMultiple, Inside, InParts, perStep, one, nought}
+use Rattle.placement.specs.Parts.{Value, partsOf, isMultiple, Inside, InParts, partBits, perStep, one, nought}
 use Rattle.placement.specs.Placed.{partsAt, placeable}
 use Rattle.placement.specs.Ready.{Ready}
 use Rattle.placement.specs.Laws.ExactArithmetic.{mul-exact, add-exact}
@@ -61,7 +62,7 @@ cast x h = whole-value x (le-trans h (lit≤ tt))
 
 product : (a : Float) (x : ℤ) → isMultiple factorLimit a ≡ true → natAbs x ≤ movableLimit → Value (mul binary64 a (ofInt binary64 x)) (partsOf a *ℤ x) partsPerStep
 product a x h g =
-    mul-exact a (ofInt binary64 x) (partsOf a) x 16 0 (lit≤ tt) (multiple-value factorLimit a h) (cast x g)
+    mul-exact a (ofInt binary64 x) (partsOf a) x partBits 0 (lit≤ tt) (multiple-value factorLimit a h) (cast x g)
     (lt-of-le-of-lt (mul-le-mul (multiple-bound factorLimit a h) g) (lit< tt))
 
 pub every-product-and-sum-is-exact : {a b c : Float} {x y : ℤ} → Ready a b c x y → EveryProductAndSumIsExact a b c x y
@@ -70,9 +71,9 @@ every-product-and-sum-is-exact {a} {b} {c} {x} {y} r =
     let by = mul binary64 b (ofInt binary64 y) in
     let first = product a x (a-usable r) (x-small r) in
     let second = product b y (b-usable r) (y-small r) in
-    let sum = add-exact ax by (partsOf a *ℤ x) (partsOf b *ℤ y) 16 (lit≤ tt) first second (lt-of-le-of-lt (sum-bound r) (lit< tt)) in
+    let sum = add-exact ax by (partsOf a *ℤ x) (partsOf b *ℤ y) partBits (lit≤ tt) first second (lt-of-le-of-lt (sum-bound r) (lit< tt)) in
     let all =
-    add-exact (add binary64 ax by) c (partsOf a *ℤ x +ℤ partsOf b *ℤ y) (partsOf c) 16 (lit≤ tt) sum (multiple-value offsetLimit c (c-usable r))
+    add-exact (add binary64 ax by) c (partsOf a *ℤ x +ℤ partsOf b *ℤ y) (partsOf c) partBits (lit≤ tt) sum (multiple-value offsetLimit c (c-usable r))
     (lt-of-le-of-lt (all-bound r) (lit< tt)) in
     let usable = value-multiple placedLimit (turned a b c x y) (partsAt a b c x y) all (partsAt-bound r) .0 in
     let parts = scaled (turned a b c x y) (add-fits binary64 (add binary64 ax by) c) (multiple-inside placedLimit (turned a b c x y) usable) in
@@ -112,7 +113,7 @@ exactly-moved p points e k h =
 
 -- ---- the test of a float
 pub record ExactlyTested (limit : ℕ) (x : Float) : Type 0 where
-  -- limit as f64, of which the negative has the sign turned and nothing else
+  -- limit as f64, of which negation only turns the sign
   pub limit-cast : Value (ofInt binary64 (pos limit)) (pos limit) 1
   -- x * 65536.0
   pub product : InParts x (mul binary64 x perStep)
@@ -120,7 +121,7 @@ pub record ExactlyTested (limit : ℕ) (x : Float) : Type 0 where
   pub cut : toSigned 63 (mul binary64 x perStep) ≡ partsOf x
   pub cast-back : Value (ofInt binary64 (partsOf x)) (partsOf x) 1
 
--- every 64-bit float x within a limit that is at most the greatest
+-- every 64-bit float x within a limit that is at most `offsetLimit`
 pub exactly-tested : (limit : ℕ) → limit ≤ offsetLimit → (x : Float) → T (fits binary64 x) → Inside limit x → ExactlyTested limit x
 exactly-tested limit h x f i =
     let exact = scaled x f (inside-wider (le-trans h (lit≤ tt)) x i) in

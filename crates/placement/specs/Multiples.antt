@@ -39,7 +39,7 @@ least-offset : isMultiple offsetLimit (ofInt binary64 (negℤ (pos offsetLimit))
 unfolding isMultiple ofInt
 least-offset = refl
 
--- ---- no multiples
+-- ---- not multiples
 -- one part past the limits; a part is 2^-16
 past-greatest-factor : isMultiple factorLimit (fin false (factorLimit * partsPerStep + 1) (negsuc 15)) ≡ false
 unfolding isMultiple
@@ -54,7 +54,7 @@ half-a-part : isMultiple factorLimit (fin false 1 (negsuc 16)) ≡ false
 unfolding isMultiple
 half-a-part = refl
 
--- 1e-320, a number so small that a float has fewer digits for it: 2,024 times the smallest
+-- 1e-320, a subnormal number: 2,024 times the smallest
 tiny : isMultiple factorLimit (ofBits binary64 2024) ≡ false
 unfolding isMultiple ofBits
 tiny = refl

@@ -5,14 +5,15 @@
 --   Value x k c               x is finite, and it is k / c; a zero of either sign is 0 / c
 --   partsOf x                 how many parts x is, cut toward zero
 --   isMultiple limit x        is x a multiple of 1/65,536 from −limit to limit?
---   Multiple limit x          it is (`Multiples` has that the test says so)
+--   Multiple limit x          it is one; `Multiples` proves that the test says so
 --   Inside limit x            x is finite, and from −limit to limit
 --   InParts x w               the float w is x × 65,536, exactly
 --   nearest k                 k parts to the nearest whole number, halves towards the larger
+--   partBits                  a part is 1/2^16
 --   perStep, one, nought      65,536, 1 and 0 as floats, which the code writes
-use mathlib.Core.Path.{_≡_}
+use mathlib.Core.Path.{_≡_, refl}
 use mathlib.Core.Bool.{Bool, true, false, _&&_}
-use Prim.Native.Nat.{ℕ, _*_, _/_, _%_, _≤_}
+use Prim.Native.Nat.{ℕ, _*_, _/_, _%_, _^_, _≤_}
 use lib.Dec.{leb, eqb}
 use lib.IntN.{ℤ, pos, negℤ, natAbs, _*ℤ_}
 use lib.Ieee.{Float, nan, inf, fin, up, down}
@@ -61,9 +62,15 @@ pub record InParts (x w : Float) : Type 0 where
 abbrev pub nearest : ℤ → ℤ
 nearest k = roundHalfUp k partsPerStep
 
--- ---- the floats that the code itself writes
+-- ---- the floats that the code itself writes; 65,536 is 2^16
+abbrev pub partBits : ℕ
+partBits = 16
+
+parts-are : 2 ^ partBits ≡ partsPerStep
+parts-are = refl
+
 abbrev pub perStep : Float
-perStep = fin false 1 (pos 16)
+perStep = fin false 1 (pos partBits)
 
 abbrev pub one : Float
 one = fin false 1 (pos 0)

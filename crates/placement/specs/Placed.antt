@@ -7,7 +7,7 @@
 --   placed p points                   the coordinates of an outline as placed
 --   isMoving p                        does the placement move points?
 --   rowUsable a b c, floatsUsable p   is every float a multiple of 1/65,536 in its range: of a turn's row, of a placement?
---   inReach z                         may a coordinate be moved?
+--   isMovable z                         may a coordinate be moved?
 --   placeable p points                question 12
 use mathlib.Core.Bool.{Bool, true, false, not, _&&_, _||_}
 use mathlib.Core.List.{List, [], _∷_}
@@ -17,7 +17,6 @@ use lib.Ieee.{Float}
 use Rattle.integers.specs.Units.{partsPerStep, factorLimit, offsetLimit, movableLimit}
 use Rattle.integers.specs.Tests.{every, between}
 use Rattle.placement.specs.Parts.{partsOf, isMultiple, nearest}
-use Rattle.placement.specs.declared.Matrix.{Matrix}
 use Rattle.placement.specs.declared.Placement.{Placement}
 use Rattle.placement.specs.declared.Placement.the-variants.{None, Shift, Scale, Turn}
 
@@ -63,9 +62,9 @@ floatsUsable (Scale s) = isMultiple factorLimit s
 floatsUsable (Turn m) = rowUsable (m .a) (m .b) (m .c) && rowUsable (m .d) (m .e) (m .f)
 
 -- "Points to be moved lie from −32,768 to 32,767 before it."
-abbrev pub inReach : ℤ → Bool
-inReach = between (negℤ (pos movableLimit)) (pos (movableLimit - 1))
+abbrev pub isMovable : ℤ → Bool
+isMovable = between (negℤ (pos movableLimit)) (pos (movableLimit - 1))
 
 -- "A float or a point to be moved outside these rules, an infinity or a not-a-number gives 12". With no placement no point is moved, and none is outside.
 abbrev pub placeable : Placement → List ℤ → Bool
-placeable p points = not (isMoving p) || (floatsUsable p && every inReach points)
+placeable p points = not (isMoving p) || (floatsUsable p && every isMovable points)

@@ -6,9 +6,9 @@ use mathlib.Core.Path.{_≡_}
 use mathlib.Core.Bool.{true}
 use lib.IntN.{ℤ}
 use lib.Ieee.{Float}
-use Rattle.placement.specs.Placed.{rowUsable, inReach}
+use Rattle.placement.specs.Placed.{rowUsable, isMovable}
 
 pub record Ready (a b c : Float) (x y : ℤ) : Type 0 where
   pub row : rowUsable a b c ≡ true
-  pub x-in : inReach x ≡ true
-  pub y-in : inReach y ≡ true
+  pub x-in : isMovable x ≡ true
+  pub y-in : isMovable y ≡ true

@@ -1,14 +1,14 @@
 // The placement of an outline's points by 64-bit floats: none, a shift, a scale or a turn.
 //
-// A part is 1/65,536 of a step. Every float that is handed in is a whole number of parts: at most 2^17 of them for a factor, 2^30 for an offset. A
+// A part is 1/65,536. Every float that is handed in must be a whole number of parts: at most 2^17 of them for a factor, 2^30 for an offset. A
 // coordinate is a whole number of steps, at most 2^15. So, in parts, a product of the two is at most 2^32, and a × x + b × y + c stays below 2^34. A
 // float keeps 53 binary digits, so that it holds every such number of parts as it is, and no product and no sum is rounded.
 //
 // The result is rounded without floats. In parts, that is times 65,536, it is a whole number, and is cast to one. Half a step is added and the bits
 // of the parts are shifted out. The shift rounds down, below zero too, so that halves go towards the larger.
 //
-// A float is a multiple of 1/65,536 where it is, in parts, equal to its own whole part. Its range is tested before that, so that the whole part fits 64
-// bits; a not-a-number fails both comparisons, and an infinity one of them. (A remainder would be shorter, but `%` on floats is a call of C's `fmod`.)
+// A float is a multiple of 1/65,536 where it is, in parts, equal to its own integer part. Its range is tested before that, so that the integer part fits
+// 64 bits; a not-a-number fails both comparisons, and an infinity one of them. (A remainder would be shorter, but `%` on floats is a call of C's `fmod`.)
 ghost use mathlib.Core.Path.{_≡_};
 ghost use mathlib.Core.Bool.{true, _&&_};
 ghost use mathlib.Core.List.{[], _∷_};
@@ -17,11 +17,13 @@ ghost use lib.ListN.{length, getD};
 ghost use lib.IntN.{pos};
 ghost use Rattle.integers.specs.Units.{partsPerStep, factorLimit, offsetLimit, placedLimit};
 ghost use Rattle.integers.specs.Tests.{every, between};
-ghost use Rattle.placement.specs.Parts.{Value, partsOf, isMultiple, Inside, InParts, nearest};
+ghost use lib.Ieee.{binary64, mul};
+ghost use Rattle.placement.specs.Parts.{Value, partsOf, isMultiple, Inside, InParts, nearest, perStep};
 ghost use Rattle.placement.specs.Placed.{partsAt, acrossOf, downOf, placed, isMoving, rowUsable, floatsUsable, placeable};
 ghost use Rattle.placement.specs.Ready.{Ready};
+ghost use Rattle.placement.specs.Exact.{turned as machineTurned};
 
-// Parts to a step, as a float: a power of two, so that a product with it is exact.
+// Parts to a step, as a float: a power of two, so that a product with it is exact as long as it is in range.
 const PARTS_PER_STEP: f64 = 65536.0;
 
 // The same as a shift.
@@ -30,13 +32,13 @@ const PART_BITS: i64 = 16;
 // Half as many, which is added before the shift.
 const HALF_STEP: i64 = 32768;
 
-// Factors are from -2 to 2: a sheet is straightened, and at most doubled in size.
+// Factors are from −2 to 2: no coordinate counts more than twice.
 const FACTOR_LIMIT: u64 = 2;
 
-// Offsets are from -16,384 to 16,384, the width of the largest tile either way.
+// Offsets are from −16,384 to 16,384, the width of the largest tile either way.
 const OFFSET_LIMIT: u64 = 16384;
 
-// Points to be moved are from -32,768 to 32,767, the whole numbers of 16 bits.
+// Points to be moved are from −32,768 to 32,767, the whole numbers of 16 bits.
 const MOVABLE_LIMIT: i64 = 32768;
 
 // The six numbers of a turn, which takes (x, y) to a × x + b × y + c and d × x + e × y + f.
@@ -62,9 +64,10 @@ pub struct Point {
     pub y: i64,
 }
 
-// x in parts. The product is exact, whatever x is.
+// x in parts. The product is exact for every x in range, multiple or not.
 fn in_parts(x: f64) -> f64
     requires { ⌜ Inside placedLimit x ⌝ }
+    ensures { λ w. ⌜ w ≡ mul binary64 x perStep ⌝ }
     ensures { λ w. ⌜ InParts x w ⌝ }
 {
     x * PARTS_PER_STEP
@@ -72,7 +75,7 @@ fn in_parts(x: f64) -> f64
 
 // ---- question 12
 
-// Is x a multiple of 1/65,536 from -limit to limit?
+// Is x a multiple of 1/65,536 from −limit to limit?
 fn is_multiple(x: f64, limit: u64) -> bool
     requires { ⌜ limit ≤ offsetLimit ⌝ }
     ensures { λ b. ⌜ b ≡ isMultiple limit x ⌝ }
@@ -133,7 +136,7 @@ fn is_moving(p: Placement) -> bool
     }
 }
 
-// Question 12: are the floats as they must be, and the points to be moved in reach?
+// Question 12: are the floats as they must be, and the points where they may be moved from?
 pub fn is_placeable(p: Placement, points: &[i64]) -> bool
     ensures { λ b. ⌜ b ≡ placeable p (now (points .entry)) ⌝ }
 {
@@ -148,6 +151,7 @@ pub fn is_placeable(p: Placement, points: &[i64]) -> bool
 // a × x + b × y + c. Each product and each sum is exact.
 fn turned(a: f64, b: f64, c: f64, x: i64, y: i64) -> f64
     requires { ⌜ Ready a b c x y ⌝ }
+    ensures { λ v. ⌜ v ≡ machineTurned a b c x y ⌝ }
     ensures { λ v. ⌜ Value v (partsAt a b c x y) partsPerStep ⌝ }
 {
     a * (x as f64) + b * (y as f64) + c
@@ -170,7 +174,7 @@ fn coordinate(a: f64, b: f64, c: f64, x: i64, y: i64) -> i64
     nearest_step(turned(a, b, c, x, y))
 }
 
-// Both.
+// A point, turned.
 fn turned_point(m: Matrix, x: i64, y: i64) -> Point
     requires { ⌜ Ready (m .a) (m .b) (m .c) x y × Ready (m .d) (m .e) (m .f) x y ⌝ }
     ensures { λ q. ⌜ (q .x ≡ nearest (partsAt (m .a) (m .b) (m .c) x y)) × (q .y ≡ nearest (partsAt (m .d) (m .e) (m .f) x y)) ⌝ }

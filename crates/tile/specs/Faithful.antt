@@ -1,16 +1,16 @@
 -- Demand 3: "This is a single claim, from the outline to what is drawn of it, and not one for building and another for drawing."
 --
--- It is about the table that a call left, and speaks of it by what the drawing calls answer and leave (`Outcomes`). `build` has it in its contract,
--- and `figures`, `greys` and `cell` have in theirs that they answer and leave just that, so it is proved of the code that runs.
+-- It is about the table that a call left, and speaks of it by what the drawing calls answer and leave (`Outcomes`). `build` and `build_placed` have it in
+-- their contracts, and `figures`, `greys` and `cell` have in theirs that they answer and leave just that, so it is proved of the code that runs.
 --
--- The claim is of a list of edges, so that every kind of outline is claimed by the same records: what an outline is to be drawn as is its edges. `root`
--- is what entry 0 is to be, and `limit` twice the limit of a figure's miss, by the level and the number of edges.
+-- The claim is of a list of edges: the same records serve every kind of outline, since an outline is drawn as its edges. `root` is what entry 0 is to be,
+-- and `twiceLimit` twice the limit of a figure's miss, by the level and the number of edges.
 --
 -- An exact area is the fraction `exactAreaNum / denominator`: an equation or a bound of it is multiplied by the denominator.
 --
 -- Definitions
 --   figureNum                              4^level times the exact area of a cell, over `denominator`
---   WithinQuarterSteps                     two areas are within a quarter of a square step times a number of each other
+--   WithinQuarterSquareSteps               two areas differ by at most a quarter of a square step, so many times
 --   CellDrawn                              what is promised of a cell
 --   Drawn                                  and of a level of the tile
 --   FaithfulTo                             and of the table that a call left, by what the call answered
@@ -40,48 +40,49 @@ abbrev pub figureNum : ℕ → List Edge → ℕ → ℕ → ℕ → ℤ
 figureNum side es level cx cy = pos (4 ^ level) *ℤ exactAreaNum (depthOf side) es level (at cx cy)
 
 -- Of the areas m / d and n / e, in units. A quarter of a square step is half of `unitsPerHalfSquareStep`, so both sides are doubled here, and times d × e.
-abbrev pub WithinQuarterSteps : ℕ → ℤ → ℕ → ℤ → ℕ → Type 0
-WithinQuarterSteps times m d n e = (pos 2 *ℤ abs (m *ℤ pos e -ℤ n *ℤ pos d)) ≤ℤ pos (times * unitsPerHalfSquareStep * (d * e))
+abbrev pub WithinQuarterSquareSteps : ℕ → ℤ → ℕ → ℤ → ℕ → Type 0
+WithinQuarterSquareSteps times m d n e = (pos 2 *ℤ abs (m *ℤ pos e -ℤ n *ℤ pos d)) ≤ℤ pos (times * unitsPerHalfSquareStep * (d * e))
 
 -- cell (cx, cy) of a level, drawn from a table: by itself, or in pictures of 4^level places, whatever these held before
-pub record CellDrawn (side : ℕ) (es : List Edge) (limit : ℕ → ℕ → ℕ) (table : List ℤ) (level cx cy : ℕ) : Type 0 where
+pub record CellDrawn (side : ℕ) (es : List Edge) (twiceLimit : ℕ → ℕ → ℕ) (table : List ℤ) (level cx cy : ℕ) : Type 0 where
   -- "None of these is refused."
   pub not-refused : cellResult side level cx cy table .number ≡ 0
   -- "its figure is the entry of the picture at that place", so that what follows holds of both
   pub in-picture : (picture : List ℤ) → length picture ≡ 4 ^ level
       → getD (figuresPicture side level table picture) (pictureIndex level cx cy) (pos 0) ≡ cellResult side level cx cy table .figure
-  -- "A level L figure differs from 4^L times the exact area by at most" the limit. Both sides are doubled here, so that nothing is divided, and times the
+  -- "A level L figure differs from 4^L times the exact area by at most" a limit. Both sides are doubled here, so that nothing is divided, and times the
   -- denominator.
   pub close : (pos 2 *ℤ abs (cellResult side level cx cy table .figure *ℤ pos (denominator es) -ℤ figureNum side es level cx cy))
-      ≤ℤ pos (limit level (length es) * denominator es)
+      ≤ℤ pos (twiceLimit level (length es) * denominator es)
   -- "It is equal where every edge is level, upright or at 45 degrees."
   pub equal : All Octilinear es → cellResult side level cx cy table .figure *ℤ pos (denominator es) ≡ figureNum side es level cx cy
-  -- "A cell's drawn area is its figure over 4^L." It is within a quarter of a square step times the number of edges of the exact area.
-  pub area : WithinQuarterSteps (length es) (cellResult side level cx cy table .figure) (4 ^ level) (exactAreaNum (depthOf side) es level (at cx cy)) (denominator es)
+  -- "A cell's drawn area is its figure over 4^L." It differs from the exact area by at most a quarter of a square step for each edge. (This is `close` in
+  -- the customer's measure, which is a little wider.)
+  pub area : WithinQuarterSquareSteps (length es) (cellResult side level cx cy table .figure) (4 ^ level) (exactAreaNum (depthOf side) es level (at cx cy)) (denominator es)
   -- "Each grey is at most one from the exact area's grey."
   pub greys : (picture : List ℕ) → length picture ≡ 4 ^ level
       → OneApart (getD (greysPicture side level table picture) (pictureIndex level cx cy) 0) (grey side (figureNum side es level cx cy) (denominator es))
 
-pub record Drawn (side : ℕ) (es : List Edge) (root : ℤ) (limit : ℕ → ℕ → ℕ) (table : List ℤ) (level : ℕ) : Type 0 where
+pub record Drawn (side : ℕ) (es : List Edge) (root : ℤ) (twiceLimit : ℕ → ℕ → ℕ) (table : List ℤ) (level : ℕ) : Type 0 where
   -- "None of these is refused": no picture of figures or of greys with 4^level places
   pub not-refused : drawRefusal side level table (4 ^ level) ≡ 0
   -- "A picture has 4^L figures"
   pub figures-length : (picture : List ℤ) → length picture ≡ 4 ^ level → length (figuresPicture side level table picture) ≡ 4 ^ level
   pub greys-length : (picture : List ℕ) → length picture ≡ 4 ^ level → length (greysPicture side level table picture) ≡ 4 ^ level
-  pub each-cell : (cx cy : ℕ) → cx < 2 ^ level → cy < 2 ^ level → CellDrawn side es limit table level cx cy
+  pub each-cell : (cx cy : ℕ) → cx < 2 ^ level → cy < 2 ^ level → CellDrawn side es twiceLimit table level cx cy
   -- "The figures of level L add up to 4^L times" the root, "which is entry 0."
   pub totals : (picture : List ℤ) → length picture ≡ 4 ^ level → total (λ f. f) (figuresPicture side level table picture) ≡ pos (4 ^ level) *ℤ root
   pub root-entry : getD table 0 (pos 0) ≡ root
 
--- `number` and `edges` are what the call answered, and `after` is the table that it left. The premise is the number, since the same edges may have been
--- refused for something else that was asked.
-pub record FaithfulTo (side : ℕ) (es : List Edge) (root : ℤ) (limit : ℕ → ℕ → ℕ) (number edges : ℕ) (after : List ℤ) : Type 0 where
+-- `number` is what the call answered, `edges` the count that it reports where that is 0, and `after` the table that it left. The premise is the number,
+-- since the same edges may have been refused for something else that was asked.
+pub record FaithfulTo (side : ℕ) (es : List Edge) (root : ℤ) (twiceLimit : ℕ → ℕ → ℕ) (number edges : ℕ) (after : List ℤ) : Type 0 where
   -- else the fractions would mean nothing
   pub denominator-positive : 0 < denominator es
   -- the edges that the limit counts are those that the call reports
   pub counted : number ≡ 0 → length es ≡ edges
   -- "Take any accepted outline and any level L from 0 to the depth."
-  pub drawn : number ≡ 0 → (level : ℕ) → level ≤ depthOf side → Drawn side es root limit after level
+  pub drawn : number ≡ 0 → (level : ℕ) → level ≤ depthOf side → Drawn side es root twiceLimit after level
 
 -- ---- 01's outline: its root is the signed area, the limit is (4^L − 1) × edges / 2, "the edges being the counts' sum"
 abbrev pub DrawnOutline : ℕ → List ℤ → List ℕ → List ℤ → ℕ → Type 0

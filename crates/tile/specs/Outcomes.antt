@@ -6,7 +6,7 @@
 --   edgesOf points counts                    the edges of an outline
 --   tableOf side points counts               the table of an outline: its entries, in order
 --   buildRefusal, buildResult, buildTable    building: the number; the number and the edge count; the table afterwards
---   placedRefusal, placedResult, placedTable building with a placement: the same of the outline as placed
+--   placedRefusal, placedResult, placedTable building with a placement: the same, and the table is that of the outline as placed
 --   drawRefusal                              pictures of figures or of greys: the number
 --   figuresPicture, greysPicture             the picture afterwards
 --   pictureIndex                             where a cell stands in a picture

@@ -1,5 +1,5 @@
--- Demand 1: "Each number comes under its question and under no other condition", for every input, and in both directions. And each question in 01's
--- words.
+-- Demand 1: "Each number comes under its question and under no other condition", for every input, and in both directions. And each question in the
+-- papers' words.
 --
 -- Main results
 --   BuildingRefusals, building-refusals     when building answers each number

@@ -1,6 +1,6 @@
 // A letter's outline into a table of Haar coefficients, and pictures of it at every halving: the five public calls.
 //
-// None asks anything of its caller. Each asks its questions of what it is given, in 01's order; the first "no" decides, and its number is the
+// None asks anything of its caller. Each asks its questions of what it is given, in the papers' order; the first "no" decides, and its number is the
 // answer. Where all are answered yes the answer is 0 and the work is done. A refused call changes nothing.
 ghost use mathlib.Core.Path.{_≡_};
 ghost use Prim.Native.Nat.{_+_, _*_, _<_, _≤_};
@@ -64,7 +64,7 @@ const NO_COUNT: u32 = 4;
 // Question 5: is the counts' sum at most the most edges?
 const NO_SUM: u32 = 5;
 
-// Question 6: is every coordinate on the tile?
+// Question 6: is every coordinate, as placed, on the tile?
 const NO_COORDINATE: u32 = 6;
 
 // Question 7: does the tile have the level?

@@ -24,8 +24,10 @@
  *       every coordinate that is moved from -32,768 to 32,767?
  *
  * Numbers may be any. What the caller owes, since no function can ask it: a pointer is not NULL, even where its length is 0, is aligned for
- * what it points to, and as many elements as its length says are there; what is written overlaps nothing else that is passed; and nobody
- * else writes any of it meanwhile. The calls keep no state and allocate nothing, so they may run on several threads at once. */
+ * what it points to, and as many elements as its length says are there; what is written overlaps nothing else that is passed; nobody else
+ * writes any of it meanwhile; and floats are computed as C starts with them, subnormal numbers kept and no exception trapped (a program
+ * linked with -ffast-math may have changed that). The calls keep no state and allocate nothing, so they may run on several threads at
+ * once. */
 #ifndef MATTULIYAN_H
 #define MATTULIYAN_H
 

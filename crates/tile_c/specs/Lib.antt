@@ -1,4 +1,4 @@
--- What the calls for C and Rust take otherwise than those of `tile`, which they are beyond that.
+-- How the calls for C and Rust differ from those of `tile`: in what they take.
 
 -- a placement as a list of numbers
 pub mod PlacementNumbers

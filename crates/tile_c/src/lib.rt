@@ -1,7 +1,7 @@
 // The five calls for programs in C or Rust: `include/mattuliyan.h` declares them, and says what its caller owes.
 //
 // A slice is passed as a pointer and a length. A call of `tile` that answers two numbers answers the first, that of the refusal or 0, and writes the
-// second where it is told.
+// second through a pointer.
 ghost use mathlib.Core.Path.{_≡_};
 ghost use lib.ListN.{length};
 ghost use Rattle.placement.specs.Placed.{placed};

@@ -1,5 +1,5 @@
 -- In each arm, one float after the other, or one row after the other.
-use mathlib.Core.Path.{_≡_, sym, ap, _∙_}
+use mathlib.Core.Path.{sym, ap, _∙_}
 use borrow.Author.Needs.{needs}
 use Rattle.integers.specs.Conjunction.{second-decides, first-decides}
 use Rattle.placement.specs.Placed.{floatsUsable}

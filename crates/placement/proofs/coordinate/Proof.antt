@@ -22,7 +22,7 @@ module _ (c : tie.After-turned) where
       let s = c .before in
       let p = s .args in
       value-multiple placedLimit (c .turned .result) parts
-      (subst (λ (k : ℤ). Value (c .turned .result) k partsPerStep) (ap₂ (partsAt (p .a) (p .b) (p .c)) (toZ-ofZ (s .fits .x)) (toZ-ofZ (s .fits .y))) (c .turned .ensures))
+      (subst (λ (k : ℤ). Value (c .turned .result) k partsPerStep) (ap₂ (partsAt (p .a) (p .b) (p .c)) (toZ-ofZ (s .fits .x)) (toZ-ofZ (s .fits .y))) (c .turned .ensures .1))
       (partsAt-bound (s .pre))
 
 nearest-step-requires : tie.Need-nearest-step-requires

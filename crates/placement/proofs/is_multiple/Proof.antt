@@ -41,7 +41,7 @@ in-parts-requires c κs = inside-wider (le-trans (start c .pre) (lit≤ tt)) (st
 
 -- what is known of it in parts
 known : (c : tie.After-in-parts) → Tested (start (c .before) .args .limit) (start (c .before) .args .x) (c .in-parts .result)
-known c = let t = c .before in tested (start t .pre) (start t .args .x) (c .in-parts .result) (inside t) (c .in-parts .ensures)
+known c = let t = c .before in tested (start t .pre) (start t .args .x) (c .in-parts .result) (inside t) (c .in-parts .ensures .1)
 
 truncating-f64-to-i64-requires : tie.Need-truncating-f64-to-i64-requires
 truncating-f64-to-i64-requires c κs = (known c .low, known c .high)

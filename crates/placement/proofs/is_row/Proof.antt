@@ -1,6 +1,5 @@
 -- A factor, another, and an offset.
-use mathlib.Core.Path.{_≡_, sym, _∙_}
-use mathlib.Core.Bool.{Bool, true, false, _&&_}
+use mathlib.Core.Path.{sym, _∙_}
 use borrow.Author.Needs.{needs}
 use Rattle.integers.specs.Conjunction.{second-decides, first-decides}
 use Rattle.placement.proofs.is_row.Statement.{statement}

@@ -12,7 +12,6 @@ use Rattle.placement.specs.Placed.{partsAt, acrossOf, downOf, placeable}
 use Rattle.placement.specs.Ready.{Ready}
 use Rattle.placement.specs.Laws.Turns.{turn-ready, shift-ready, scale-ready, ready-at, nearest-at, shift-x, shift-y, scale-x, scale-y}
 use Rattle.placement.specs.declared.Placement.{Placement}
-use Rattle.placement.specs.declared.Placement.the-variants.{Shift, Scale, Turn}
 use Rattle.placement.proofs.moved.Statement.{statement}
 use Rattle.placement.proofs.moved.Tie as tie
 

@@ -36,7 +36,7 @@ in-parts-requires c κs = multiple-inside placedLimit (v c) (c .pre)
 whole : (c : tie.After-in-parts) → Value (c .in-parts .result) (partsOf (v (c .before))) 1
 whole c =
     let x = v (c .before) in
-    whole-parts (c .in-parts .result) (partsOf x) (c .in-parts .ensures .exact (partsOf x) partsPerStep (multiple-value placedLimit x (c .before .pre)))
+    whole-parts (c .in-parts .result) (partsOf x) (c .in-parts .ensures .1 .exact (partsOf x) partsPerStep (multiple-value placedLimit x (c .before .pre)))
 
 truncating-f64-to-i64-requires : tie.Need-truncating-f64-to-i64-requires
 truncating-f64-to-i64-requires c κs =

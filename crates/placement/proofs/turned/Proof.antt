@@ -1,5 +1,5 @@
 -- Each cast is of a whole number that a float holds, and each operation is exact.
-use mathlib.Core.Path.{_≡_, subst⁻¹, ap₂}
+use mathlib.Core.Path.{subst⁻¹, ap₂}
 use native.Mathlib.Nat.{le-trans}
 use lib.Dec.{T, lit≤}
 use lib.IntN.{ℤ}
@@ -34,9 +34,8 @@ returns : tie.Need-returns
 returns c =
     let s = c .before .before in
     let p = s .args in
-    subst⁻¹ (λ (v : Float). Value v (partsAt (p .a) (p .b) (p .c) (p .x) (p .y)) partsPerStep)
-    (ap₂ (Exact.turned (p .a) (p .b) (p .c)) (toZ-ofZ (s .fits .x)) (toZ-ofZ (s .fits .y)))
-    (Exact.every-product-and-sum-is-exact (s .pre) .second-sum)
+    let same = ap₂ (Exact.turned (p .a) (p .b) (p .c)) (toZ-ofZ (s .fits .x)) (toZ-ofZ (s .fits .y)) in
+    (same, subst⁻¹ (λ (v : Float). Value v (partsAt (p .a) (p .b) (p .c) (p .x) (p .y)) partsPerStep) same (Exact.every-product-and-sum-is-exact (s .pre) .second-sum))
 
 pub turned-spec : {M : Type 1} → statement M
 turned-spec = tie.close (tie.spec int-to-float-result int-to-float-result-2 returns)

@@ -1,9 +1,10 @@
 -- A float compared with a limit and its negative, as the code compares it. A not-a-number fails both comparisons, an infinity one of them.
 --
 -- Main results
+--   inside-wider                  what is within a limit is within a larger one
 --   inside-of                     what passes both comparisons is within the limit
 --   inside-low, inside-high       and what is within the limit passes both
---   inside-below                  what is within 2^62 is below 2^63, which a cast to 64 bits asks
+--   inside-above, inside-below    what is within 2^62 lies where a cast to 64 bits is defined
 use mathlib.Core.Path.{_≡_, refl, sym, ap, _∙_, subst}
 use mathlib.Core.Logic.{_⊎_, inl, inr}
 use mathlib.Core.Bool.{Bool, true, false, _&&_, _||_, true≢false}
@@ -17,7 +18,7 @@ use lib.Ieee.Fits.{down-pos, and-i, and-l, eq→eqb}
 use lib.Ieee.Exact.{HasValue}
 use Rattle.placement.specs.Parts.{Inside}
 
--- ---- within a limit, and so within a larger one
+-- ---- limits
 pub inside-wider : {a b : ℕ} → a ≤ b → (x : Float) → Inside a x → Inside b x
 inside-wider h nan i = absurd i
 inside-wider h (inf s) i = absurd i
@@ -127,6 +128,7 @@ inside-high limit (fin s m e) (inf t) h b = absurd h
 inside-high limit (fin s m e) (fin true n d) h b = absurd (true≢false (h .0))
 inside-high limit (fin s m e) (fin false n d) h b = high-out limit n d (h .1) s m e b
 
+-- ---- what a cast to 64 bits asks
 pub inside-above : (x : Float) → Inside (2 ^ 62) x → T (le (fin true 1 (pos 63)) x)
 inside-above nan b = absurd b
 inside-above (inf s) b = absurd b

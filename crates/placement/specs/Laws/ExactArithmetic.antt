@@ -1,4 +1,4 @@
--- Floats of 64 finest that are multiples of 1/2^t: their product and their sum are exact while the magnitudes, in parts of 1/2^t, stay below 2^53. A float
+-- Floats of 64 bits that are multiples of 1/2^t: their product and their sum are exact while the magnitudes, in parts of 1/2^t, stay below 2^53. A float
 -- keeps 53 binary digits, and the operations of IEEE 754 round only what has more. Nothing here is about placements.
 --
 -- Main results
@@ -21,9 +21,13 @@ use Rattle.placement.specs.Parts.{signed, Value}
 use Rattle.placement.specs.Laws.Values.{signed-times, of-has, has}
 
 -- ---- rounding
--- the smallest float is 1/2^1074
+-- the smallest float is 1/2^1074,
 abbrev pub finest : ℕ
 finest = 1074
+
+-- and every float lies below 2^1024, which is so many doublings of the smallest
+abbrev pub span : ℕ
+span = finest + 1024
 
 split : (t : ℕ) → t ≤ finest → 2 ^ t * 2 ^ (finest - t) ≡ 2 ^ finest
 split t h = sym (pow-add 2 t (finest - t)) ∙ ap (λ (n : ℕ). 2 ^ n) (back t h)
@@ -31,7 +35,7 @@ split t h = sym (pow-add 2 t (finest - t)) ∙ ap (λ (n : ℕ). 2 ^ n) (back t 
     back : (t : ℕ) → t ≤ finest → t + (finest - t) ≡ finest
     back t h = omega arith
 
--- num / den is q / 2^t, and q has no more digits than a float keeps. (Every float lies below 2^1024, which is 2^2098 times the smallest.)
+-- num / den is q / 2^t, and q has no more digits than a float keeps
 round-at : (s : Bool) (num den q t : ℕ) → 0 < den → t ≤ finest → q < 2 ^ 53 → num * 2 ^ t ≡ q * den → HasValue (round binary64 s num den) s q (2 ^ t)
 round-at s num den q t D T' Q h =
     rescale (round binary64 s num den)
@@ -41,7 +45,7 @@ round-at s num den q t D T' Q h =
     ∙ ap (λ (z : ℕ). z * 2 ^ (finest - t)) h
     ∙ mul-right-comm q den (2 ^ (finest - t))))
   where
-    room : (t : ℕ) → 53 + (finest - t) ≤ 2098
+    room : (t : ℕ) → 53 + (finest - t) ≤ span
     room t = omega arith
 
     rescale : (x : Float) → HasValue x s num den → HasValue x s q (2 ^ t)

@@ -18,9 +18,9 @@ use lib.Ieee.Fits.{down-pos, and-l, and-r}
 use lib.Ieee.Exact.{HasValue, round-exact}
 use Rattle.integers.specs.Units.{partsPerStep, placedLimit}
 use Rattle.integers.specs.Linear.{eq, linear, lin≡}
-use Rattle.placement.specs.Parts.{signed, Value, Inside, InParts, perStep}
+use Rattle.placement.specs.Parts.{signed, Value, Inside, InParts, partBits, perStep}
 use Rattle.placement.specs.Laws.Values.{of-has, has, signed-mul}
-use Rattle.placement.specs.Laws.ExactArithmetic.{finest}
+use Rattle.placement.specs.Laws.ExactArithmetic.{finest, span}
 
 -- ---- a float of 64 bits has at most 53 digits, and no exponent below −1074
 digits : (s : Bool) (m : ℕ) (e : ℤ) → T (fits binary64 (fin s m e)) → m < 2 ^ 53
@@ -47,32 +47,35 @@ depth s m j t =
     go true f g h = f tt
     go false f g h = absurd (not-le-of-lt (pow-lt (g tt)) h)
 
--- ---- x × 65,536: the same digits, with an exponent greater by 16, which is in range both ways (1090 is 1074 + 16)
+-- ---- x × 65,536: the same digits, with an exponent greater by 16, which is in range both ways
+abbrev raised : ℕ
+raised = finest + partBits
+
 exact-scale : (s : Bool) (m : ℕ) (e : ℤ) → T (fits binary64 (fin s m e)) → m * up e ≤ placedLimit * down e
     → HasValue (round binary64 s (m * up e * partsPerStep) (down e * 1)) s (m * up e * partsPerStep) (down e * 1)
 exact-scale s m (pos i) f b =
-    let whole : m * 2 ^ (i + 1090) ≡ m * 2 ^ i * 2 ^ 1090 = ap (λ (z : ℕ). m * z) (pow-add 2 i 1090) ∙ sym (mul-assoc m (2 ^ i) (2 ^ 1090)) in
-    round-exact binary64 s (m * 2 ^ i * partsPerStep) 1 m (i + 1090) (lit< tt) (digits s m (pos i) f)
-    (lt-of-le-of-lt (le-trans (le-of-eq whole) (mul-le-mul-right (2 ^ 1090) b)) (lit< tt))
-    (mul-assoc (m * 2 ^ i) partsPerStep (2 ^ finest) ∙ sym whole ∙ sym (mul-one (m * 2 ^ (i + 1090))))
+    let whole : m * 2 ^ (i + raised) ≡ m * 2 ^ i * 2 ^ raised = ap (λ (z : ℕ). m * z) (pow-add 2 i raised) ∙ sym (mul-assoc m (2 ^ i) (2 ^ raised)) in
+    round-exact binary64 s (m * 2 ^ i * partsPerStep) 1 m (i + raised) (lit< tt) (digits s m (pos i) f)
+    (lt-of-le-of-lt (le-trans (le-of-eq whole) (mul-le-mul-right (2 ^ raised) b)) (lit< tt))
+    (mul-assoc (m * 2 ^ i) partsPerStep (2 ^ finest) ∙ sym whole ∙ sym (mul-one (m * 2 ^ (i + raised))))
 exact-scale s zero (negsuc j) f b =
     round-exact binary64 s 0 (2 ^ suc j * 1) 0 0 (mul-pos (pow-pos (suc j)) (lit< tt)) (lit< tt) (lit< tt) (sym (zero-mul (2 ^ suc j * 1)))
 exact-scale s (suc m) (negsuc j) f b =
     let t = suc j in
     let d = depth s m j f in
     let n = suc m in
-    round-exact binary64 s (n * 1 * partsPerStep) (2 ^ t * 1) n (1090 - t) (mul-pos (pow-pos t) (lit< tt)) (digits s n (negsuc j) f)
-    (lt-of-lt-of-le (shl-lt 53 (1090 - t) (digits s n (negsuc j) f)) (pow-mono (room t)))
+    round-exact binary64 s (n * 1 * partsPerStep) (2 ^ t * 1) n (raised - t) (mul-pos (pow-pos t) (lit< tt)) (digits s n (negsuc j) f)
+    (lt-of-lt-of-le (shl-lt 53 (raised - t) (digits s n (negsuc j) f)) (pow-mono (room t)))
     (mul-assoc (n * 1) partsPerStep (2 ^ finest)
-    ∙ ap (λ (z : ℕ). z * 2 ^ 1090) (mul-one n)
-    ∙ ap (λ (z : ℕ). n * z) (ap (λ (z : ℕ). 2 ^ z) (back t d) ∙ pow-add 2 (1090 - t) t)
-    ∙ sym (mul-assoc n (2 ^ (1090 - t)) (2 ^ t))
-    ∙ ap (λ (z : ℕ). n * 2 ^ (1090 - t) * z) (sym (mul-one (2 ^ t))))
+    ∙ ap (λ (z : ℕ). z * 2 ^ raised) (mul-one n)
+    ∙ ap (λ (z : ℕ). n * z) (ap (λ (z : ℕ). 2 ^ z) (back t d) ∙ pow-add 2 (raised - t) t)
+    ∙ sym (mul-assoc n (2 ^ (raised - t)) (2 ^ t))
+    ∙ ap (λ (z : ℕ). n * 2 ^ (raised - t) * z) (sym (mul-one (2 ^ t))))
   where
-    room : (t : ℕ) → 53 + (1090 - t) ≤ 2098
+    room : (t : ℕ) → 53 + (raised - t) ≤ span
     room t = omega arith
 
-    back : (t : ℕ) → t ≤ finest → 1090 ≡ 1090 - t + t
+    back : (t : ℕ) → t ≤ finest → raised ≡ raised - t + t
     back t h = omega arith
 
 scale-has : (s : Bool) (m : ℕ) (e : ℤ) → T (fits binary64 (fin s m e)) → m * up e ≤ placedLimit * down e

@@ -1,13 +1,14 @@
 -- Of a multiple of 1/65,536 `partsOf` is how many parts it is.
 --
 -- Main results
---   multiple-value, multiple-bound    where the test passes, x is partsOf x / 65,536, and partsOf x in its range
---   value-multiple                    and where x is k / 65,536 and k in the range, the test passes and k is partsOf x
+--   multiple-value                    where the test passes, x is partsOf x / 65,536,
+--   multiple-inside, multiple-bound   and x and partsOf x are in their ranges
+--   value-multiple                    where x is k / 65,536 and k in the range, the test passes and k is partsOf x
 --   not-inside                        where x is not within the limit the test fails
 use mathlib.Core.Path.{_≡_, refl, sym, ap, _∙_}
 use mathlib.Core.Logic.{_↔_}
 use mathlib.Core.Bool.{Bool, true, false, true≢false}
-use Prim.Native.Nat.{ℕ, _+_, _*_, _/_, _%_, _≤_, _<_}
+use Prim.Native.Nat.{ℕ, _+_, _*_, _/_, _%_, _≤_}
 use native.Mathlib.Nat.{mul-right-comm, mul-le-mul-right, le-trans, le-of-eq, le-of-mul-le-mul-right, mul-mod-left, mul-div-cancel, div-add-mod', add-zero}
 use lib.Dec.{lit<}
 use lib.IntN.{ℤ, natAbs}

@@ -18,7 +18,7 @@ use lib.IntN.{ℤ, pos}
 use Rattle.integers.specs.Below.{both}
 use Rattle.integers.specs.Tests.{every}
 use Rattle.integers.specs.Every.{every-entry, every-part}
-use Rattle.placement.specs.Placed.{acrossOf, downOf, placed, floatsUsable, inReach, placeable}
+use Rattle.placement.specs.Placed.{acrossOf, downOf, placed, floatsUsable, isMovable, placeable}
 use Rattle.placement.specs.declared.Placement.{Placement}
 use Rattle.placement.specs.declared.Placement.the-variants.{None, Shift, Scale, Turn}
 
@@ -89,10 +89,10 @@ module _ (p : Placement) (l : List ℤ) (k : ℕ) (h : 2 * k + 1 < length l) whe
   placed-y = ap (λ r. getD r 1 (pos 0)) from-k
 
 -- ---- question 12. It asks the same of the floats whatever the points, so an answer is carried over where that about the points is.
-asked-of : (floats : Bool) (k l : List ℤ) → (every inReach k ≡ true → every inReach l ≡ true) → (floats && every inReach k) ≡ true → (floats && every inReach l) ≡ true
-asked-of floats k l f e = let said = both floats (every inReach k) e in ap₂ _&&_ (said .0) (f (said .1))
+asked-of : (floats : Bool) (k l : List ℤ) → (every isMovable k ≡ true → every isMovable l ≡ true) → (floats && every isMovable k) ≡ true → (floats && every isMovable l) ≡ true
+asked-of floats k l f e = let said = both floats (every isMovable k) e in ap₂ _&&_ (said .0) (f (said .1))
 
-carried : (p : Placement) (k l : List ℤ) → (every inReach k ≡ true → every inReach l ≡ true) → placeable p k ≡ true → placeable p l ≡ true
+carried : (p : Placement) (k l : List ℤ) → (every isMovable k ≡ true → every isMovable l ≡ true) → placeable p k ≡ true → placeable p l ≡ true
 carried None k l f e = refl
 carried (Shift u v) k l f e = asked-of (floatsUsable (Shift u v)) k l f e
 carried (Scale s) k l f e = asked-of (floatsUsable (Scale s)) k l f e
@@ -102,7 +102,7 @@ pub placeable-at : (p : Placement) (l : List ℤ) (i j : ℕ) → placeable p l 
     → placeable p (getD l i (pos 0) ∷ getD l j (pos 0) ∷ []) ≡ true
 placeable-at p l i j e h k =
     carried p l (getD l i (pos 0) ∷ getD l j (pos 0) ∷ [])
-    (λ r. ap₂ (λ a b. a && (b && true)) (every-entry inReach (pos 0) l r i h) (every-entry inReach (pos 0) l r j k)) e
+    (λ r. ap₂ (λ a b. a && (b && true)) (every-entry isMovable (pos 0) l r i h) (every-entry isMovable (pos 0) l r j k)) e
 
 pub placeable-part : (p : Placement) (i n : ℕ) (l : List ℤ) → placeable p l ≡ true → placeable p (take n (drop i l)) ≡ true
-placeable-part p i n l = carried p l (take n (drop i l)) (every-part inReach i n l)
+placeable-part p i n l = carried p l (take n (drop i l)) (every-part isMovable i n l)

@@ -9,7 +9,7 @@ use Prim.Native.Nat.{ℕ, zero, suc, _+_, _*_, _/_, _%_, _^_, _≤_, _<_}
 use native.Mathlib.Nat.{mul-assoc, mul-right-comm, mul-one, zero-mul, zero-div, mul-le-mul-right, le-trans, le-of-eq, mul-mod-left, eq-of-mul-eq-mul-right, div-add-mod', add-zero, le-of-mul-le-mul-right, div-mul-le-self}
 use lib.Dec.{T, leb, eqb, eqb→eq, le→leb, lit≤}
 use lib.Signed.{nonNeg}
-use lib.IntN.{ℤ, pos, negℤ, natAbs, _*ℤ_}
+use lib.IntN.{ℤ, pos, negℤ, natAbs}
 use lib.Ieee.{Float, nan, inf, fin, binary64, up, down, eq, le, lt, ofInt, toSigned}
 use lib.Ieee.Fits.{down-pos, and-i, and-l, eq→eqb}
 use lib.Ieee.Nearest.{div-same}

@@ -4,8 +4,10 @@
 -- Definitions
 --   productLimit                  a factor's greatest number of parts times the greatest coordinate
 -- Main results
---   reach-small                   a coordinate that may be moved is at most 32,768 in magnitude
---   product-bound, sum-bound, all-bound, partsAt-bound
+--   movable-small                 a coordinate that may be moved is at most 32,768 in magnitude
+--   a-usable .. y-small           what `Ready` says, number by number
+--   sum-bound, all-bound          the terms of each sum
+--   partsAt-bound                 the result is at most the greatest placed coordinate
 use mathlib.Core.Path.{_≡_}
 use mathlib.Core.Bool.{true, _&&_}
 use Prim.Native.Nat.{ℕ, _+_, _-_, _*_, _≤_}
@@ -21,12 +23,12 @@ use Rattle.integers.specs.Tests.{between-means}
 use Rattle.integers.specs.Order.{≤ℤ-trans}
 use Rattle.integers.specs.Within.{natAbs-of-within}
 use Rattle.placement.specs.Parts.{partsOf, isMultiple}
-use Rattle.placement.specs.Placed.{partsAt, inReach}
+use Rattle.placement.specs.Placed.{partsAt, isMovable}
 use Rattle.placement.specs.Ready.{Ready}
 use Rattle.placement.specs.Laws.PartsOf.{multiple-bound}
 
-pub reach-small : (x : ℤ) → inReach x ≡ true → natAbs x ≤ movableLimit
-reach-small x e =
+pub movable-small : (x : ℤ) → isMovable x ≡ true → natAbs x ≤ movableLimit
+movable-small x e =
     let said = between-means (negℤ (pos movableLimit)) (pos (movableLimit - 1)) x .0 e in
     natAbs-of-within (record { low = said .0; high = ≤ℤ-trans (said .1) (leZ-yes tt) })
 
@@ -48,10 +50,10 @@ module _ {a b c : Float} {x y : ℤ} (r : Ready a b c x y) where
   c-usable = both (isMultiple factorLimit b) (isMultiple offsetLimit c) rest .1
 
   pub x-small : natAbs x ≤ movableLimit
-  x-small = reach-small x (r .x-in)
+  x-small = movable-small x (r .x-in)
 
   pub y-small : natAbs y ≤ movableLimit
-  y-small = reach-small y (r .y-in)
+  y-small = movable-small y (r .y-in)
 
 -- ---- the bounds
 product-bound : (a : Float) (x : ℤ) → isMultiple factorLimit a ≡ true → natAbs x ≤ movableLimit → natAbs (partsOf a *ℤ x) ≤ productLimit

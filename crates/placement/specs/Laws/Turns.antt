@@ -14,7 +14,7 @@ use Rattle.integers.specs.Ring.{read, ring}
 use Rattle.integers.specs.Below.{both}
 use Rattle.integers.specs.Tests.{every}
 use Rattle.placement.specs.Parts.{partsOf, isMultiple, nearest, one, nought}
-use Rattle.placement.specs.Placed.{partsAt, rowUsable, inReach, placeable}
+use Rattle.placement.specs.Placed.{partsAt, rowUsable, isMovable, placeable}
 use Rattle.placement.specs.Ready.{Ready}
 use Rattle.placement.specs.declared.Matrix.{Matrix}
 use Rattle.placement.specs.declared.Placement.the-variants.{Shift, Scale, Turn}
@@ -64,14 +64,14 @@ row-of a b c h k l = ap₂ _&&_ h (ap₂ _&&_ k l)
 -- what question 12 says of a point, where it says yes
 record Yes (floats : Bool) (x y : ℤ) : Type 0 where
   pub usable : floats ≡ true
-  pub x-in : inReach x ≡ true
-  pub y-in : inReach y ≡ true
+  pub x-in : isMovable x ≡ true
+  pub y-in : isMovable y ≡ true
 
-yes : {floats : Bool} {x y : ℤ} → (floats && every inReach (x ∷ y ∷ [])) ≡ true → Yes floats x y
+yes : {floats : Bool} {x y : ℤ} → (floats && every isMovable (x ∷ y ∷ [])) ≡ true → Yes floats x y
 yes {floats} {x} {y} e =
-    let all = both floats (every inReach (x ∷ y ∷ [])) e in
-    let first = both (inReach x) (every inReach (y ∷ [])) (all .1) in
-    record { usable = all .0; x-in = first .0; y-in = both (inReach y) true (first .1) .0 }
+    let all = both floats (every isMovable (x ∷ y ∷ [])) e in
+    let first = both (isMovable x) (every isMovable (y ∷ [])) (all .1) in
+    record { usable = all .0; x-in = first .0; y-in = both (isMovable y) true (first .1) .0 }
 
 ready : {floats : Bool} {a b c : Float} {x y : ℤ} → Yes floats x y → rowUsable a b c ≡ true → Ready a b c x y
 ready s h = record { row = h; x-in = s .x-in; y-in = s .y-in }

@@ -6,8 +6,8 @@
 --   cut-signed                    what a cast cuts a float to, where it is in the range of 64 bits
 --   cut-whole                     a float that is a whole number is cut to that number
 use mathlib.Core.Path.{_≡_, sym, ap, _∙_}
-use mathlib.Core.Bool.{Bool, true, false, cond}
-use Prim.Native.Nat.{ℕ, suc, _-_, _*_, _/_, _^_, _≤_, _<_, min}
+use mathlib.Core.Bool.{Bool, true, false}
+use Prim.Native.Nat.{ℕ, suc, _-_, _*_, _/_, _^_, _≤_, min}
 use native.Mathlib.Nat.{mul-one, mul-le-mul-right, le-trans, le-of-eq, mul-div-cancel}
 use native.Mathlib.Omega.{arith}
 use lib.Dec.{T, lt→ltb, le→leb}

@@ -16,10 +16,10 @@ use Rattle.integers.specs.Ring.{read, ring}
 use Rattle.integers.specs.Order.{≤ℤ-trans, pos-≤ℤ}
 use Rattle.integers.specs.Magnitude.{abs}
 use Rattle.accuracy.specs.Accurate.{twiceMissLimit}
-use Rattle.tile.specs.Faithful.{WithinQuarterSteps}
+use Rattle.tile.specs.Faithful.{WithinQuarterSquareSteps}
 
 pub area-within : (figure area : ℤ) (cells den limit edges : ℕ) → limit ≤ cells * edges
-    → (pos 2 *ℤ abs (figure *ℤ pos den -ℤ pos cells *ℤ area)) ≤ℤ pos (limit * den) → WithinQuarterSteps edges figure cells area den
+    → (pos 2 *ℤ abs (figure *ℤ pos den -ℤ pos cells *ℤ area)) ≤ℤ pos (limit * den) → WithinQuarterSquareSteps edges figure cells area den
 area-within figure area cells den limit edges few near =
     let turned : figure *ℤ pos den -ℤ pos cells *ℤ area ≡ figure *ℤ pos den -ℤ area *ℤ pos cells =
     ring (figure ∷ pos den ∷ pos cells ∷ area ∷ []) (search read depth 40) tt in
