@@ -2,7 +2,7 @@
 --
 -- Main results
 --   second-decides             where the first test holds the second is the answer
---   first-decides              where it fails it is
+--   first-decides              where it fails, it is the answer itself
 use mathlib.Core.Path.{_≡_, sym, ap, _∙_}
 use mathlib.Core.Bool.{Bool, true, false, _&&_}
 

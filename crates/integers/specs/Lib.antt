@@ -1,6 +1,6 @@
 -- The integers: what the rest of the project knows of ℤ. Read in this order.
 
--- 01's numbers, by name
+-- 01's and 02's numbers, by name
 pub mod Units
 -- equations of polynomials, proved in one line: `ring`, `comb`
 pub mod RingLaws

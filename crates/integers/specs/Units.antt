@@ -101,8 +101,8 @@ fullGrey = 255
 abbrev pub textLimit : ℕ
 textLimit = 16384
 
--- ---- placements (02, P1): "Every float handed in must be a multiple of 1/65,536". A part is that much; the product of a factor and a coordinate, and
--- a sum of these, then has few enough of them for a 64-bit float to hold it exactly.
+-- ---- placements (02, P1): "Every float handed in must be a multiple of 1/65,536". A part is that much. Products of a factor and a coordinate, and
+-- their sums, are then whole numbers of parts, small enough for a 64-bit float to hold them exactly.
 abbrev pub partsPerStep : ℕ
 partsPerStep = 65536
 

@@ -60,8 +60,8 @@ pub record EveryProductAndSumIsExact (a b c : Float) (x y : ℤ) : Type 0 where
 cast : (x : ℤ) → natAbs x ≤ movableLimit → Value (ofInt binary64 x) x 1
 cast x h = whole-value x (le-trans h (lit≤ tt))
 
-product : (a : Float) (x : ℤ) → isMultiple factorLimit a ≡ true → natAbs x ≤ movableLimit → Value (mul binary64 a (ofInt binary64 x)) (partsOf a *ℤ x) partsPerStep
-product a x h g =
+factor-times-coordinate : (a : Float) (x : ℤ) → isMultiple factorLimit a ≡ true → natAbs x ≤ movableLimit → Value (mul binary64 a (ofInt binary64 x)) (partsOf a *ℤ x) partsPerStep
+factor-times-coordinate a x h g =
     mul-exact a (ofInt binary64 x) (partsOf a) x partBits 0 (lit≤ tt) (multiple-value factorLimit a h) (cast x g)
     (lt-of-le-of-lt (mul-le-mul (multiple-bound factorLimit a h) g) (lit< tt))
 
@@ -69,8 +69,8 @@ pub every-product-and-sum-is-exact : {a b c : Float} {x y : ℤ} → Ready a b c
 every-product-and-sum-is-exact {a} {b} {c} {x} {y} r =
     let ax = mul binary64 a (ofInt binary64 x) in
     let by = mul binary64 b (ofInt binary64 y) in
-    let first = product a x (a-usable r) (x-small r) in
-    let second = product b y (b-usable r) (y-small r) in
+    let first = factor-times-coordinate a x (a-usable r) (x-small r) in
+    let second = factor-times-coordinate b y (b-usable r) (y-small r) in
     let sum = add-exact ax by (partsOf a *ℤ x) (partsOf b *ℤ y) partBits (lit≤ tt) first second (lt-of-le-of-lt (sum-bound r) (lit< tt)) in
     let all =
     add-exact (add binary64 ax by) c (partsOf a *ℤ x +ℤ partsOf b *ℤ y) (partsOf c) partBits (lit≤ tt) sum (multiple-value offsetLimit c (c-usable r))

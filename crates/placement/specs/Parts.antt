@@ -10,7 +10,9 @@
 --   InParts x w               the float w is x × 65,536, exactly
 --   nearest k                 k parts to the nearest whole number, halves towards the larger
 --   partBits                  a part is 1/2^16
+--   signed s n                a magnitude with a sign; true is minus
 --   perStep, one, nought      65,536, 1 and 0 as floats, which the code writes
+--   keptDigits, castLimit     what a float holds, and what a cast takes
 use mathlib.Core.Path.{_≡_, refl}
 use mathlib.Core.Bool.{Bool, true, false, _&&_}
 use Prim.Native.Nat.{ℕ, _*_, _/_, _%_, _^_, _≤_}
@@ -77,3 +79,12 @@ one = fin false 1 (pos 0)
 
 abbrev pub nought : Float
 nought = fin false 0 (pos 0)
+
+-- ---- 64-bit floats
+-- A float keeps so many binary digits: it holds every whole number up to 2^53.
+abbrev pub keptDigits : ℕ
+keptDigits = 53
+
+-- A float up to this, either way, is well within what a cast to a signed number of 64 bits takes.
+abbrev pub castLimit : ℕ
+castLimit = 2 ^ 62

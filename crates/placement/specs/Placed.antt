@@ -7,7 +7,7 @@
 --   placed p points                   the coordinates of an outline as placed
 --   isMoving p                        does the placement move points?
 --   rowUsable a b c, floatsUsable p   is every float a multiple of 1/65,536 in its range: of a turn's row, of a placement?
---   isMovable z                         may a coordinate be moved?
+--   isMovable z                       may a coordinate be moved?
 --   placeable p points                question 12
 use mathlib.Core.Bool.{Bool, true, false, not, _&&_, _||_}
 use mathlib.Core.List.{List, [], _∷_}

@@ -8,7 +8,7 @@
 // of the parts are shifted out. The shift rounds down, below zero too, so that halves go towards the larger.
 //
 // A float is a multiple of 1/65,536 where it is, in parts, equal to its own integer part. Its range is tested before that, so that the integer part fits
-// 64 bits; a not-a-number fails both comparisons, and an infinity one of them. (A remainder would be shorter, but `%` on floats is a call of C's `fmod`.)
+// 64 bits; that shuts out what is not finite too.
 ghost use mathlib.Core.Path.{_≡_};
 ghost use mathlib.Core.Bool.{true, _&&_};
 ghost use mathlib.Core.List.{[], _∷_};
@@ -41,7 +41,7 @@ const OFFSET_LIMIT: u64 = 16384;
 // Points to be moved are from −32,768 to 32,767, the whole numbers of 16 bits.
 const MOVABLE_LIMIT: i64 = 32768;
 
-// The six numbers of a turn, which takes (x, y) to a × x + b × y + c and d × x + e × y + f.
+// The six numbers of a turn, which takes (x, y) to a × x + b × y + c and d × x + e × y + f: a, b and c are one row, and d, e and f the other.
 pub struct Matrix {
     pub a: f64,
     pub b: f64,

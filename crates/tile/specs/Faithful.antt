@@ -15,7 +15,7 @@
 --   Drawn                                  and of a level of the tile
 --   FaithfulTo                             and of the table that a call left, by what the call answered
 --   DrawnOutline, FaithfulOutline          the same of 01's outline, which is points and counts
---   Faithful                               and of what building leaves
+--   Faithful, FaithfulPlaced               and of what building leaves, without and with a placement
 --   exactFigureNum, exactDenominator       the exact fraction of 01's outline
 use mathlib.Core.Path.{_≡_}
 use mathlib.Core.List.{List}
@@ -30,11 +30,13 @@ use Rattle.edge.specs.declared.Edge.{Edge}
 use Rattle.edge.specs.Octilinear.{Octilinear}
 use Rattle.haar.specs.Greys.{grey, OneApart}
 use Rattle.haar.specs.Plane.{at}
+use Rattle.placement.specs.declared.Placement.{Placement}
+use Rattle.placement.specs.Placed.{placed}
 use Rattle.accuracy.specs.Outline.{edgeCount, signedArea}
 use Rattle.accuracy.specs.ExactArea.{denominator, exactAreaNum}
 use Rattle.accuracy.specs.Accurate.{twiceMissLimit}
 use Rattle.tile.specs.Questions.{depthOf}
-use Rattle.tile.specs.Outcomes.{edgesOf, buildRefusal, drawRefusal, figuresPicture, greysPicture, pictureIndex, cellResult}
+use Rattle.tile.specs.Outcomes.{edgesOf, buildRefusal, placedRefusal, drawRefusal, figuresPicture, greysPicture, pictureIndex, cellResult}
 
 abbrev pub figureNum : ℕ → List Edge → ℕ → ℕ → ℕ → ℤ
 figureNum side es level cx cy = pos (4 ^ level) *ℤ exactAreaNum (depthOf side) es level (at cx cy)
@@ -56,8 +58,8 @@ pub record CellDrawn (side : ℕ) (es : List Edge) (twiceLimit : ℕ → ℕ →
       ≤ℤ pos (twiceLimit level (length es) * denominator es)
   -- "It is equal where every edge is level, upright or at 45 degrees."
   pub equal : All Octilinear es → cellResult side level cx cy table .figure *ℤ pos (denominator es) ≡ figureNum side es level cx cy
-  -- "A cell's drawn area is its figure over 4^L." It differs from the exact area by at most a quarter of a square step for each edge. (This is `close` in
-  -- the customer's measure, which is a little wider.)
+  -- "A cell's drawn area is its figure over 4^L." It differs from the exact area by at most a quarter of a square step for each edge. (This is demand 3 in
+  -- square steps; `close` is a little narrower.)
   pub area : WithinQuarterSquareSteps (length es) (cellResult side level cx cy table .figure) (4 ^ level) (exactAreaNum (depthOf side) es level (at cx cy)) (denominator es)
   -- "Each grey is at most one from the exact area's grey."
   pub greys : (picture : List ℕ) → length picture ≡ 4 ^ level
@@ -96,6 +98,11 @@ FaithfulOutline side points counts number after =
 -- left.
 abbrev pub Faithful : ℕ → List ℤ → List ℕ → List ℤ → List ℤ → Type 0
 Faithful side points counts before after = FaithfulOutline side points counts (buildRefusal side points counts before) after
+
+-- "the drawn outline is the one that demand 3 measures": that of the points as placed
+abbrev pub FaithfulPlaced : ℕ → List ℤ → List ℕ → Placement → List ℤ → List ℤ → Type 0
+FaithfulPlaced side points counts placement before after =
+    FaithfulOutline side (placed placement points) counts (placedRefusal side points counts placement before) after
 
 abbrev pub exactFigureNum : ℕ → List ℤ → List ℕ → ℕ → ℕ → ℕ → ℤ
 exactFigureNum side points counts level cx cy = figureNum side (edgesOf points counts) level cx cy

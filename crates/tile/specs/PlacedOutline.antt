@@ -6,7 +6,7 @@
 --   placed-number                where the placement is accepted the questions are building's, of the points as placed
 --   placed-as-built              so the answer and the table are those of building the outline as placed
 --   placed-none-as-built         with no placement they are building's, for every input
---   placed-faithful              and what is left is drawn as `FaithfulOutline` says of the outline as placed
+--   placed-faithful              and what is left is drawn as `FaithfulPlaced` says
 use mathlib.Core.Path.{_≡_, sym, _∙_, ap, ap₂}
 use mathlib.Core.Bool.{Bool}
 use mathlib.Core.List.{List, [], _∷_}
@@ -22,7 +22,7 @@ use Rattle.accuracy.specs.Outline.{edgeCount}
 use Rattle.tile.specs.declared.Built.{Built}
 use Rattle.tile.specs.Questions.{Yes, firstNo, question1, question2, question3, question4, question5, question6, question12}
 use Rattle.tile.specs.Outcomes.{ifDone, tableOf, buildRefusal, buildResult, buildTable, placedRefusal, placedResult, placedTable}
-use Rattle.tile.specs.Faithful.{FaithfulOutline}
+use Rattle.tile.specs.Faithful.{FaithfulPlaced}
 use Rattle.tile.specs.Theorem.{outline-faithful}
 use Rattle.tile.specs.Laws.Accepted.{placed-accepted}
 
@@ -60,8 +60,7 @@ module _ (side : ℕ) (points : List ℤ) (counts : List ℕ) (table : List ℤ)
       (ap (λ m. answer m counts) none-number, ap₂ (λ m l. ifDone m (tableOf side l counts) table) none-number (placed-none points))
 
 pub placed-faithful : (side : ℕ) (points : List ℤ) (counts : List ℕ) (placement : Placement) (before : List ℤ)
-    → FaithfulOutline side (placed placement points) counts (placedRefusal side points counts placement before)
-    (placedTable side points counts placement before)
+    → FaithfulPlaced side points counts placement before (placedTable side points counts placement before)
 placed-faithful side points counts placement before =
     outline-faithful side (placed placement points) counts (placedRefusal side points counts placement before) before
     (placed-accepted side points counts placement before)

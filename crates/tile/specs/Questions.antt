@@ -1,4 +1,4 @@
--- The questions. Each call asks its own in 01's order, and "The first "no" decides."
+-- The questions. Each call asks its own in the papers' order, and "The first "no" decides."
 --
 -- Definitions
 --   depthOf side                           the depth of a tile

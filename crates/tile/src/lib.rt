@@ -10,9 +10,8 @@ ghost use lib.Dec.{leb};
 ghost use mathlib.Core.Bool.{_&&_};
 ghost use Rattle.integers.specs.Units.{greatestSide, greatestDepth, fewestPoints, mostPoints};
 ghost use Rattle.tile.specs.Questions.{depthOf, firstNo, question1, question2, question4, question7, question8, question9, question10};
-ghost use Rattle.placement.specs.Placed.{placed};
 ghost use Rattle.tile.specs.Outcomes.{buildResult, buildTable, placedRefusal, placedResult, placedTable, drawRefusal, figuresPicture, greysPicture, cellRefusal, cellResult};
-ghost use Rattle.tile.specs.Faithful.{Faithful, FaithfulOutline};
+ghost use Rattle.tile.specs.Faithful.{Faithful, FaithfulPlaced};
 ghost use Rattle.tile.specs.Inner.{cappedEdges, levelQuestions};
 use placement::Placement;
 
@@ -283,9 +282,7 @@ pub fn build(side: u32, points: &[i64], counts: &[u32], table: &mut [i64]) -> Bu
     build_placed(side, points, counts, Placement::None, table)
 }
 
-// Builds the table of an outline on a tile, as placed: `points` has x and y of each point in turn, in 1/256 pixel, and `counts` how many points each
-// contour has. The answer is 0 and the edge count; whatever the table held before, it holds the table of the outline as placed afterwards. Or it is the
-// number of the first question that is answered no, and 0, and the table is as it was.
+// As `build`, of the points as placed. Question 12 comes before question 6, which is decided on the placed points.
 pub fn build_placed(
     side: u32,
     points: &[i64],
@@ -295,7 +292,7 @@ pub fn build_placed(
 ) -> Built
     ensures { λ r. ⌜ r ≡ placedResult side (now (points .entry)) (now (counts .entry)) placement (now (table .entry)) ⌝ }
     ensures { λ _. ⌜ now (table .exit) ≡ placedTable side (now (points .entry)) (now (counts .entry)) placement (now (table .entry)) ⌝ }
-    ensures { λ _. ⌜ FaithfulOutline side (placed placement (now (points .entry))) (now (counts .entry)) (placedRefusal side (now (points .entry)) (now (counts .entry)) placement (now (table .entry))) (now (table .exit)) ⌝ }
+    ensures { λ _. ⌜ FaithfulPlaced side (now (points .entry)) (now (counts .entry)) placement (now (table .entry)) (now (table .exit)) ⌝ }
     ensures { λ _. ⌜ (now (points .exit) ≡ now (points .entry)) × (now (counts .exit) ≡ now (counts .entry)) ⌝ }
 {
     let number = build_refusal(side, points, counts, placement, table);

@@ -4,9 +4,8 @@
 // second through a pointer.
 ghost use mathlib.Core.Path.{_≡_};
 ghost use lib.ListN.{length};
-ghost use Rattle.placement.specs.Placed.{placed};
-ghost use Rattle.tile.specs.Outcomes.{buildResult, buildTable, placedRefusal, placedResult, placedTable, drawRefusal, figuresPicture, greysPicture, cellResult};
-ghost use Rattle.tile.specs.Faithful.{Faithful, FaithfulOutline};
+ghost use Rattle.tile.specs.Outcomes.{buildResult, buildTable, placedResult, placedTable, drawRefusal, figuresPicture, greysPicture, cellResult};
+ghost use Rattle.tile.specs.Faithful.{Faithful, FaithfulPlaced};
 ghost use Rattle.tile_c.specs.PlacementNumbers.{placementOf};
 use placement::Matrix;
 use placement::Placement;
@@ -83,7 +82,7 @@ pub extern "C" fn mattuliyan_build_placed(
     ensures { λ r. ⌜ r ≡ placedResult side (now (points .entry)) (now (counts .entry)) (placementOf (now (placement .entry))) (now (table .entry)) .number ⌝ }
     ensures { λ _. ⌜ now (edges .exit) ≡ placedResult side (now (points .entry)) (now (counts .entry)) (placementOf (now (placement .entry))) (now (table .entry)) .edges ⌝ }
     ensures { λ _. ⌜ now (table .exit) ≡ placedTable side (now (points .entry)) (now (counts .entry)) (placementOf (now (placement .entry))) (now (table .entry)) ⌝ }
-    ensures { λ _. ⌜ FaithfulOutline side (placed (placementOf (now (placement .entry))) (now (points .entry))) (now (counts .entry)) (placedRefusal side (now (points .entry)) (now (counts .entry)) (placementOf (now (placement .entry))) (now (table .entry))) (now (table .exit)) ⌝ }
+    ensures { λ _. ⌜ FaithfulPlaced side (now (points .entry)) (now (counts .entry)) (placementOf (now (placement .entry))) (now (table .entry)) (now (table .exit)) ⌝ }
     ensures { λ _. ⌜ (now (points .exit) ≡ now (points .entry)) × (now (counts .exit) ≡ now (counts .entry)) × (now (placement .exit) ≡ now (placement .entry)) ⌝ }
 {
     let placed = tile::build_placed(side, points, counts, placement_of(placement), table);

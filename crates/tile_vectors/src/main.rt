@@ -1,4 +1,4 @@
-// Runs the four calls of `tile` as they are compiled. A line of standard input is a letter and decimal numbers, each after one space; blank
+// Runs 01's four calls, of `tile`, as they are compiled. A line of standard input is a letter and decimal numbers, each after one space; blank
 // lines and those that begin with `#` are passed over.
 //
 //   s SIDE      l LEVEL      n ENTRIES      r PLACES      what the next calls get: n says how much of the table, r how much of a picture

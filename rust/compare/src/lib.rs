@@ -1,7 +1,7 @@
 //! The proved library beside the reference, on very many inputs.
 //!
 //! What no proof covers is compared here: that the compiler made of the proved code what it says, and that what was proved is what was
-//! wanted. The library is called through C; the reference was written from 01 alone and works by another method.
+//! wanted. The library is called through C; the reference was written from the papers alone and works by another method.
 //!
 //! A run is a list of cases, each made from the run's seed and its own number, so that any of them can be tried again alone. A case takes one
 //! accepted outline through building and every drawing call at every level ([`calls`]), and one like it that is placed first ([`placements`]),
@@ -30,7 +30,7 @@ const CELLS_ALONE: usize = 64;
 /// Calls that may be refused, of building, of building with a placement and of drawing each, in a case.
 const DAMAGED_CALLS: u32 = 2;
 
-/// Numbers of answers: 0 is the work done; 11 is the tile program's own and is not answered here.
+/// One more than the greatest number that is answered: 0 is the work done; 11 is the tile program's own and is not answered here.
 pub const ANSWERS: usize = 13;
 
 /// What a run has seen.

@@ -1,10 +1,10 @@
-//! Placements: random ones that take points onto a tile, those of the words that a person writes, and what the library is given.
+//! Placements: random ones that take points onto a tile, those that a person gives as words, and what the library is given.
 use crate::outlines::Outline;
 use crate::random::Random;
 use reference::{Limits, Placement, STEPS};
 use std::ffi::{OsStr, OsString};
 
-/// The numbers of a placement are whole numbers of 65,536ths.
+/// Parts to one: the numbers of a placement are whole numbers of 65,536ths.
 const PARTS: i64 = reference::PARTS as i64;
 const HALF: i64 = PARTS / 2;
 /// The greatest factor and offset, either way, in these.

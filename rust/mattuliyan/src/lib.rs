@@ -27,7 +27,8 @@ mod refusal;
 
 pub use refusal::Refusal;
 
-/// `include/mattuliyan.h` of the crate `tile_c`, which says what a caller owes: what every slice of Rust gives.
+/// `include/mattuliyan.h` of the crate `tile_c`, which says what a caller owes: what every slice of Rust gives, and floats as a program
+/// starts with them.
 mod c {
     unsafe extern "C" {
         pub fn mattuliyan_build(

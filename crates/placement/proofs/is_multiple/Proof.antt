@@ -9,7 +9,7 @@ use lib.Ieee.{binary64, inFloat, ofInt, eq}
 use lib.Ieee.Back.{round-whole}
 use lib.Ieee.Exact.{HasValue}
 use Rattle.integers.specs.Bits.{back, result-is}
-use Rattle.placement.specs.Parts.{partsOf, Inside}
+use Rattle.placement.specs.Parts.{partsOf, Inside, keptDigits}
 use Rattle.placement.specs.Laws.PartsOf.{not-inside}
 use Rattle.placement.specs.Laws.Comparisons.{inside-wider, inside-of, inside-low, inside-high}
 use Rattle.placement.specs.Laws.WholeFloats.{whole-fits}
@@ -18,7 +18,7 @@ use Rattle.placement.proofs.is_multiple.Statement.{statement}
 use Rattle.placement.proofs.is_multiple.Tie as tie
 
 -- the limit, as a float
-small : (s : tie.Start) → s .args .limit ≤ 2 ^ 53
+small : (s : tie.Start) → s .args .limit ≤ 2 ^ keptDigits
 small s = le-trans (s .pre) (lit≤ tt)
 
 bound-is : (s : tie.Start) → HasValue (ofInt binary64 (pos (s .args .limit))) false (s .args .limit) 1

@@ -11,7 +11,7 @@ use Rattle.integers.specs.Machine.{machine, linfits}
 use Rattle.integers.specs.Within.{Within, bounds, within-of-natAbs}
 use Rattle.integers.specs.Bits.{back, result-is}
 use Rattle.integers.specs.Units.{partsPerStep, placedLimit}
-use Rattle.placement.specs.Parts.{Value, partsOf}
+use Rattle.placement.specs.Parts.{Value, partsOf, castLimit}
 use Rattle.placement.specs.Laws.PartsOf.{multiple-value, multiple-inside, multiple-bound}
 use Rattle.placement.specs.Laws.Comparisons.{inside-above, inside-below}
 use Rattle.placement.specs.Laws.WholeFloats.{whole-inside, cut-whole}
@@ -27,7 +27,7 @@ module _ (s : tie.Start) where
   bound : natAbs (partsOf v) ≤ placedLimit * partsPerStep
   bound = multiple-bound placedLimit v (s .pre)
 
-  small : natAbs (partsOf v) ≤ 2 ^ 62
+  small : natAbs (partsOf v) ≤ castLimit
   small = le-trans bound (lit≤ tt)
 
 in-parts-requires : tie.Need-in-parts-requires
@@ -40,7 +40,7 @@ whole c =
 
 truncating-f64-to-i64-requires : tie.Need-truncating-f64-to-i64-requires
 truncating-f64-to-i64-requires c κs =
-    let i = whole-inside (2 ^ 62) (c .in-parts .result) (partsOf (v (c .before))) (whole c) (small (c .before)) in
+    let i = whole-inside castLimit (c .in-parts .result) (partsOf (v (c .before))) (whole c) (small (c .before)) in
     (inside-above _ i, inside-below _ i)
 
 cut-is : (c : tie.After-truncating-f64-to-i64) → back (c .truncating-f64-to-i64 .result) ≡ partsOf (v (c .before .before))

@@ -1,6 +1,7 @@
 -- A float compared with a limit and its negative, as the code compares it. A not-a-number fails both comparisons, an infinity one of them.
 --
 -- Main results
+--   same                          two tests that pass together are equal
 --   inside-wider                  what is within a limit is within a larger one
 --   inside-of                     what passes both comparisons is within the limit
 --   inside-low, inside-high       and what is within the limit passes both
@@ -16,7 +17,7 @@ use lib.IntN.{ℤ, pos}
 use lib.Ieee.{Float, nan, inf, fin, up, down, neg, le, lt}
 use lib.Ieee.Fits.{down-pos, and-i, and-l, eq→eqb}
 use lib.Ieee.Exact.{HasValue}
-use Rattle.placement.specs.Parts.{Inside}
+use Rattle.placement.specs.Parts.{Inside, castLimit}
 
 -- ---- limits
 pub inside-wider : {a b : ℕ} → a ≤ b → (x : Float) → Inside a x → Inside b x
@@ -129,12 +130,12 @@ inside-high limit (fin s m e) (fin true n d) h b = absurd (true≢false (h .0))
 inside-high limit (fin s m e) (fin false n d) h b = high-out limit n d (h .1) s m e b
 
 -- ---- what a cast to 64 bits asks
-pub inside-above : (x : Float) → Inside (2 ^ 62) x → T (le (fin true 1 (pos 63)) x)
+pub inside-above : (x : Float) → Inside castLimit x → T (le (fin true 1 (pos 63)) x)
 inside-above nan b = absurd b
 inside-above (inf s) b = absurd b
 inside-above (fin s m e) b = low-out (2 ^ 63) 1 (pos 63) refl s m e (le-trans b (mul-le-mul-right (down e) (lit≤ tt)))
 
-pub inside-below : (x : Float) → Inside (2 ^ 62) x → T (lt x (fin false 1 (pos 63)))
+pub inside-below : (x : Float) → Inside castLimit x → T (lt x (fin false 1 (pos 63)))
 unfolding lt
 inside-below nan b = absurd b
 inside-below (inf s) b = absurd b
@@ -144,4 +145,4 @@ inside-below (fin true m e) b = lt→ltb 0 (m * up e * 1 + 2 ^ 63 * down e) (som
     some a b h = omega arith
 inside-below (fin false m e) b =
     lt→ltb (m * up e * 1) (2 ^ 63 * down e)
-    (lt-of-le-of-lt (le-trans (le-of-eq (mul-one (m * up e))) b) (mul-lt-mul-of-pos-right {m = 2 ^ 62} {n = 2 ^ 63} (lit< tt) (down-pos e)))
+    (lt-of-le-of-lt (le-trans (le-of-eq (mul-one (m * up e))) b) (mul-lt-mul-of-pos-right {m = castLimit} {n = 2 ^ 63} (lit< tt) (down-pos e)))

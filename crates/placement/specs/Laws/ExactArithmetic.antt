@@ -1,6 +1,8 @@
 -- Floats of 64 bits that are multiples of 1/2^t: their product and their sum are exact while the magnitudes, in parts of 1/2^t, stay below 2^53. A float
 -- keeps 53 binary digits, and the operations of IEEE 754 round only what has more. Nothing here is about placements.
 --
+-- Definitions
+--   finest, span              the smallest float is 1/2^finest, and every float lies below 2^span times it
 -- Main results
 --   mul-exact                 k / 2^t times l / 2^u is k l / 2^(t + u), where |k| |l| is below 2^53
 --   add-exact                 k / 2^t plus l / 2^t is (k + l) / 2^t, where |k| + |l| is below 2^53
@@ -17,7 +19,7 @@ use lib.Ieee.{Float, nan, inf, fin, binary64, up, down, round, sum, add, mul, un
 use lib.Ieee.Fits.{down-pos}
 use lib.Ieee.Exact.{HasValue, round-exact}
 use Rattle.integers.specs.Ring.{read, ring, comb}
-use Rattle.placement.specs.Parts.{signed, Value}
+use Rattle.placement.specs.Parts.{signed, Value, keptDigits}
 use Rattle.placement.specs.Laws.Values.{signed-times, of-has, has}
 
 -- ---- rounding
@@ -36,7 +38,7 @@ split t h = sym (pow-add 2 t (finest - t)) ∙ ap (λ (n : ℕ). 2 ^ n) (back t 
     back t h = omega arith
 
 -- num / den is q / 2^t, and q has no more digits than a float keeps
-round-at : (s : Bool) (num den q t : ℕ) → 0 < den → t ≤ finest → q < 2 ^ 53 → num * 2 ^ t ≡ q * den → HasValue (round binary64 s num den) s q (2 ^ t)
+round-at : (s : Bool) (num den q t : ℕ) → 0 < den → t ≤ finest → q < 2 ^ keptDigits → num * 2 ^ t ≡ q * den → HasValue (round binary64 s num den) s q (2 ^ t)
 round-at s num den q t D T' Q h =
     rescale (round binary64 s num den)
     (round-exact binary64 s num den q (finest - t) D Q (lt-of-lt-of-le (shl-lt 53 (finest - t) Q) (pow-mono (room t)))
@@ -45,7 +47,7 @@ round-at s num den q t D T' Q h =
     ∙ ap (λ (z : ℕ). z * 2 ^ (finest - t)) h
     ∙ mul-right-comm q den (2 ^ (finest - t))))
   where
-    room : (t : ℕ) → 53 + (finest - t) ≤ span
+    room : (t : ℕ) → keptDigits + (finest - t) ≤ span
     room t = omega arith
 
     rescale : (x : Float) → HasValue x s num den → HasValue x s q (2 ^ t)
@@ -62,7 +64,7 @@ round-at s num den q t D T' Q h =
     )
 
 -- ---- the product
-pub mul-exact : (x y : Float) (k l : ℤ) (t u : ℕ) → t + u ≤ finest → Value x k (2 ^ t) → Value y l (2 ^ u) → natAbs k * natAbs l < 2 ^ 53 → Value (mul binary64 x y) (k *ℤ l) (2 ^ (t + u))
+pub mul-exact : (x y : Float) (k l : ℤ) (t u : ℕ) → t + u ≤ finest → Value x k (2 ^ t) → Value y l (2 ^ u) → natAbs k * natAbs l < 2 ^ keptDigits → Value (mul binary64 x y) (k *ℤ l) (2 ^ (t + u))
 unfolding mul
 mul-exact (fin s m e) (fin s' n d) k l t u b v w small =
     let h = has s m e k (2 ^ t) v in
@@ -98,7 +100,7 @@ sub-mul a b c = mul-comm (a - b) c ∙ mul-sub c a b ∙ ap₂ _-_ (mul-comm c a
 less : (a b : ℕ) → a - b ≤ a + b
 less a b = omega arith
 
-module _ (a b C p r t : ℕ) (D : 0 < C) (B : t ≤ finest) (A : a * 2 ^ t ≡ p * C) (R : b * 2 ^ t ≡ r * C) (small : p + r < 2 ^ 53) where
+module _ (a b C p r t : ℕ) (D : 0 < C) (B : t ≤ finest) (A : a * 2 ^ t ≡ p * C) (R : b * 2 ^ t ≡ r * C) (small : p + r < 2 ^ keptDigits) where
   ordered : a ≤ b → p ≤ r
   ordered h = le-of-mul-le-mul-right (le-trans (le-of-eq (sym A)) (le-trans (mul-le-mul-right (2 ^ t) h) (le-of-eq R))) D
 
@@ -144,7 +146,7 @@ module _ (a b C p r t : ℕ) (D : 0 < C) (B : t ≤ finest) (A : a * 2 ^ t ≡ p
       go true h g = subst (λ (z : ℤ). Value (round binary64 false (b - a) C) z (2 ^ t)) (up-to r p (ordered (le-of-lt (h tt))) ∙ flip (pos r) (negℤ (pos p))) (minus' false)
       go false h g = equal (ltb b a) (nltb→le b a) (g tt)
 
-pub add-exact : (x y : Float) (k l : ℤ) (t : ℕ) → t ≤ finest → Value x k (2 ^ t) → Value y l (2 ^ t) → natAbs k + natAbs l < 2 ^ 53 → Value (add binary64 x y) (k +ℤ l) (2 ^ t)
+pub add-exact : (x y : Float) (k l : ℤ) (t : ℕ) → t ≤ finest → Value x k (2 ^ t) → Value y l (2 ^ t) → natAbs k + natAbs l < 2 ^ keptDigits → Value (add binary64 x y) (k +ℤ l) (2 ^ t)
 unfolding add
 add-exact (fin s m e) (fin s' n d) k l t b v w small =
     let h = has s m e k (2 ^ t) v in

@@ -18,26 +18,26 @@ use lib.Ieee.Fits.{down-pos, and-l, and-r}
 use lib.Ieee.Exact.{HasValue, round-exact}
 use Rattle.integers.specs.Units.{partsPerStep, placedLimit}
 use Rattle.integers.specs.Linear.{eq, linear, lin≡}
-use Rattle.placement.specs.Parts.{signed, Value, Inside, InParts, partBits, perStep}
+use Rattle.placement.specs.Parts.{signed, Value, Inside, InParts, partBits, perStep, keptDigits}
 use Rattle.placement.specs.Laws.Values.{of-has, has, signed-mul}
 use Rattle.placement.specs.Laws.ExactArithmetic.{finest, span}
 
 -- ---- a float of 64 bits has at most 53 digits, and no exponent below −1074
-digits : (s : Bool) (m : ℕ) (e : ℤ) → T (fits binary64 (fin s m e)) → m < 2 ^ 53
+digits : (s : Bool) (m : ℕ) (e : ℤ) → T (fits binary64 (fin s m e)) → m < 2 ^ keptDigits
 unfolding fits
 digits s zero e t = lit< tt
 digits s (suc m) e t =
     let a : Bool = eqb (suc m % 2) 1 in
-    let b : Bool = ltb (suc m) (2 ^ 53) in
+    let b : Bool = ltb (suc m) (2 ^ keptDigits) in
     let c : Bool = leb (down e) (2 ^ finest) in
     let d : Bool = ltb (suc m * up e) (2 ^ 1024 * down e) in
-    ltb→lt (suc m) (2 ^ 53) (and-r a b (and-l (a && b) c (and-l (a && b && c) d t)))
+    ltb→lt (suc m) (2 ^ keptDigits) (and-r a b (and-l (a && b) c (and-l (a && b && c) d t)))
 
 depth : (s : Bool) (m j : ℕ) → T (fits binary64 (fin s (suc m) (negsuc j))) → suc j ≤ finest
 unfolding fits
 depth s m j t =
     let a : Bool = eqb (suc m % 2) 1 in
-    let b : Bool = ltb (suc m) (2 ^ 53) in
+    let b : Bool = ltb (suc m) (2 ^ keptDigits) in
     let c : Bool = leb (2 ^ suc j) (2 ^ finest) in
     let d : Bool = ltb (suc m * 1) (2 ^ 1024 * 2 ^ suc j) in
     let h : 2 ^ suc j ≤ 2 ^ finest = leb→le (2 ^ suc j) (2 ^ finest) (and-r (a && b) c (and-l (a && b && c) d t)) in
@@ -72,7 +72,7 @@ exact-scale s (suc m) (negsuc j) f b =
     ∙ sym (mul-assoc n (2 ^ (raised - t)) (2 ^ t))
     ∙ ap (λ (z : ℕ). n * 2 ^ (raised - t) * z) (sym (mul-one (2 ^ t))))
   where
-    room : (t : ℕ) → 53 + (raised - t) ≤ span
+    room : (t : ℕ) → keptDigits + (raised - t) ≤ span
     room t = omega arith
 
     back : (t : ℕ) → t ≤ finest → raised ≡ raised - t + t

@@ -2,7 +2,7 @@
 -- number equals x in parts exactly where nothing was cut.
 --
 -- Main results
---   tested                        all that the code has of such an x
+--   Tested, tested                all that the code has of such an x
 use mathlib.Core.Path.{_≡_, refl, sym, ap, _∙_, subst}
 use mathlib.Core.Bool.{Bool, true, false, not, _&&_, _||_, Bool·beq}
 use Prim.Native.Nat.{ℕ, zero, suc, _+_, _*_, _/_, _%_, _^_, _≤_, _<_}
@@ -14,7 +14,7 @@ use lib.Ieee.{Float, nan, inf, fin, binary64, up, down, eq, le, lt, ofInt, toSig
 use lib.Ieee.Fits.{down-pos, and-i, and-l, eq→eqb}
 use lib.Ieee.Nearest.{div-same}
 use Rattle.integers.specs.Units.{partsPerStep, offsetLimit}
-use Rattle.placement.specs.Parts.{signed, Value, partsOf, isMultiple, Inside, InParts}
+use Rattle.placement.specs.Parts.{signed, Value, partsOf, isMultiple, Inside, InParts, keptDigits, castLimit}
 use Rattle.placement.specs.Laws.Values.{has, abs-signed, signed-mul}
 use Rattle.placement.specs.Laws.Comparisons.{same, inside-wider, inside-above, inside-below}
 use Rattle.placement.specs.Laws.WholeFloats.{whole-value, cut-signed}
@@ -51,7 +51,7 @@ module _ (s : Bool) (A C : ℕ) (P : 0 < C) where
       le-of-mul-le-mul-right
       (le-trans (le-of-eq (size t m e v)) (le-trans (mul-le-mul-right (down e) h) (le-of-eq (mul-right-comm limit C (down e))))) P
 
-  is-cut : (x : Float) → Value x (signed s A) C → A / C ≤ 2 ^ 62 → toSigned 63 x ≡ signed s (A / C)
+  is-cut : (x : Float) → Value x (signed s A) C → A / C ≤ castLimit → toSigned 63 x ≡ signed s (A / C)
   is-cut nan v h = absurd v
   is-cut (inf t) v h = absurd v
   is-cut (fin t m e) v h = cut-signed t m e (A / C) (div-same (m * up e) (down e) A C (down-pos e) P (size t m e v)) h ∙ sign t m e v
@@ -89,7 +89,7 @@ pub record Tested (limit : ℕ) (x w : Float) : Type 0 where
   pub low : T (le (fin true 1 (pos 63)) w)
   pub high : T (lt w (fin false 1 (pos 63)))
   pub cut-is : toSigned 63 w ≡ partsOf x
-  pub small : natAbs (partsOf x) ≤ 2 ^ 53
+  pub small : natAbs (partsOf x) ≤ 2 ^ keptDigits
   pub back : eq w (ofInt binary64 (partsOf x)) ≡ isMultiple limit x
 
 pub tested : {limit : ℕ} → limit ≤ offsetLimit → (x w : Float) → Inside limit x → InParts x w → Tested limit x w
@@ -104,8 +104,8 @@ tested {limit} h (fin s m e) w i p =
     let under : A ≤ offsetLimit * partsPerStep * D =
     le-trans (mul-le-mul-right partsPerStep (inside-wider h (fin s m e) i)) (le-of-eq (mul-right-comm offsetLimit D partsPerStep)) in
     let part : A / D ≤ offsetLimit * partsPerStep = le-of-mul-le-mul-right (le-trans (div-mul-le-self A D) under) P in
-    let small : natAbs (signed s (A / D)) ≤ 2 ^ 53 = le-trans (le-of-eq (abs-signed s (A / D))) (le-trans part (lit≤ tt)) in
-    let inside : Inside (2 ^ 62) w = is-inside s A D P w (2 ^ 62) v (le-trans under (mul-le-mul-right D (lit≤ tt))) in
+    let small : natAbs (signed s (A / D)) ≤ 2 ^ keptDigits = le-trans (le-of-eq (abs-signed s (A / D))) (le-trans part (lit≤ tt)) in
+    let inside : Inside castLimit w = is-inside s A D P w castLimit v (le-trans under (mul-le-mul-right D (lit≤ tt))) in
     record {
       low = inside-above w inside;
       high = inside-below w inside;

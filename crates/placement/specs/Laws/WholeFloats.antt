@@ -15,18 +15,18 @@ use lib.IntN.{ℤ, pos, negsuc, negℤ, natAbs}
 use lib.Ieee.{Float, nan, inf, fin, binary64, up, down, round, ofInt, toSigned, inFloat}
 use lib.Ieee.Fits.{down-pos}
 use lib.Ieee.Back.{round-whole}
-use Rattle.placement.specs.Parts.{signed, Value, Inside}
+use Rattle.placement.specs.Parts.{signed, Value, Inside, keptDigits, castLimit}
 use Rattle.placement.specs.Laws.Values.{of-has, has}
 
-pub whole-value : (z : ℤ) → natAbs z ≤ 2 ^ 53 → Value (ofInt binary64 z) z 1
+pub whole-value : (z : ℤ) → natAbs z ≤ 2 ^ keptDigits → Value (ofInt binary64 z) z 1
 unfolding ofInt
 whole-value (pos n) h = of-has (round binary64 false n 1) false n 1 (round-whole binary64 false n h)
 whole-value (negsuc n) h = of-has (round binary64 true (suc n) 1) true (suc n) 1 (round-whole binary64 true (suc n) h)
 
-pub whole-fits : (z : ℤ) → natAbs z ≤ 2 ^ 53 → T (inFloat binary64 z)
+pub whole-fits : (z : ℤ) → natAbs z ≤ 2 ^ keptDigits → T (inFloat binary64 z)
 unfolding inFloat
-whole-fits (pos n) h = le→leb n (2 ^ 53) h
-whole-fits (negsuc n) h = lt→ltb n (2 ^ 53) h
+whole-fits (pos n) h = le→leb n (2 ^ keptDigits) h
+whole-fits (negsuc n) h = lt→ltb n (2 ^ keptDigits) h
 
 -- ---- a float that is a whole number
 size : (s : Bool) (m : ℕ) (e k : ℤ) → Value (fin s m e) k 1 → m * up e ≡ natAbs k * down e
@@ -38,18 +38,18 @@ whole-inside limit (inf s) k v b = absurd v
 whole-inside limit (fin s m e) k v b = le-trans (le-of-eq (size s m e k v)) (mul-le-mul-right (down e) b)
 
 -- ---- a cast holds what it cuts within 64 bits
-held : (a : ℕ) → a ≤ 2 ^ 62 → min a (2 ^ 63 - 1) ≡ a
+held : (a : ℕ) → a ≤ castLimit → min a (2 ^ 63 - 1) ≡ a
 held a h = omega arith
 
-held-low : (a : ℕ) → a ≤ 2 ^ 62 → min a (2 ^ 63) ≡ a
+held-low : (a : ℕ) → a ≤ castLimit → min a (2 ^ 63) ≡ a
 held-low a h = omega arith
 
-pub cut-signed : (s : Bool) (m : ℕ) (e : ℤ) (q : ℕ) → m * up e / down e ≡ q → q ≤ 2 ^ 62 → toSigned 63 (fin s m e) ≡ signed s q
+pub cut-signed : (s : Bool) (m : ℕ) (e : ℤ) (q : ℕ) → m * up e / down e ≡ q → q ≤ castLimit → toSigned 63 (fin s m e) ≡ signed s q
 unfolding toSigned
 cut-signed true m e q i h = ap (λ (z : ℕ). negℤ (pos (min z (2 ^ 63)))) i ∙ ap (λ (z : ℕ). negℤ (pos z)) (held-low q h)
 cut-signed false m e q i h = ap (λ (z : ℕ). pos (min z (2 ^ 63 - 1))) i ∙ ap pos (held q h)
 
-pub cut-whole : (x : Float) (k : ℤ) → Value x k 1 → natAbs k ≤ 2 ^ 62 → toSigned 63 x ≡ k
+pub cut-whole : (x : Float) (k : ℤ) → Value x k 1 → natAbs k ≤ castLimit → toSigned 63 x ≡ k
 cut-whole nan k v b = absurd v
 cut-whole (inf s) k v b = absurd v
 cut-whole (fin s m e) k v b =

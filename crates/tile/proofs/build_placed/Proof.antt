@@ -14,7 +14,7 @@ use Rattle.accuracy.specs.Outline.{edgeCount}
 use Rattle.tile.specs.declared.Built.{Built}
 use Rattle.tile.specs.Outcomes.{placedRefusal, placedTable}
 use Rattle.tile.specs.Refusals.{placed-refusals}
-use Rattle.tile.specs.Faithful.{FaithfulOutline}
+use Rattle.tile.specs.Faithful.{FaithfulPlaced}
 use Rattle.tile.specs.PlacedOutline.{placed-faithful}
 use Rattle.tile.specs.Laws.IfDone.{if-done, if-refused}
 use Rattle.tile.specs.Laws.Accepted.{Accepted, placed-accepted}
@@ -34,9 +34,10 @@ module _ (s : tie.Start) where
   abbrev number : ℕ
   number = placedRefusal (s .args .side) (s .args .points .now) (s .args .counts .now) (s .args .placement) (s .args .table .now)
 
-  is-faithful : {after : List ℤ} → after ≡ outcome → FaithfulOutline (s .args .side) (placed (s .args .placement) (s .args .points .now)) (s .args .counts .now) number after
+  is-faithful : {after : List ℤ} → after ≡ outcome
+      → FaithfulPlaced (s .args .side) (s .args .points .now) (s .args .counts .now) (s .args .placement) (s .args .table .now) after
   is-faithful e =
-      subst⁻¹ (FaithfulOutline (s .args .side) (placed (s .args .placement) (s .args .points .now)) (s .args .counts .now) number) e
+      subst⁻¹ (FaithfulPlaced (s .args .side) (s .args .points .now) (s .args .counts .now) (s .args .placement) (s .args .table .now)) e
       (placed-faithful (s .args .side) (s .args .points .now) (s .args .counts .now) (s .args .placement) (s .args .table .now))
 
 returns : tie.Need-returns

@@ -66,8 +66,8 @@ placed-accepted side points counts placement table done =
     accepted-by side (placed placement points) counts table (yes .0) (yes .1 .0) (yes .1 .1 .1 .0)
     (placed-length placement points ∙ question3-means points counts .0 (yes .1 .1 .1 .1 .0)) (yes .1 .1 .1 .1 .1 .1 .0)
 
--- Edges whose table can be drawn as promised, whatever kind of outline they are of. (Question 4 is none of it: an outline's edges are accepted, however
--- they were counted.)
+-- Edges whose table can be drawn as promised, whatever kind of outline they are of. (Question 4 is not among it: how many
+-- points each contour has does not matter here.)
 pub record AcceptedEdges (side : ℕ) (es : List Edge) : Type 0 where
   pub is-side : Yes (question1 side)
   pub few-edges : length es ≤ mostEdges

@@ -1,5 +1,5 @@
--- A drawn area, which is a figure over 4^level, beside the exact area: a figure that is near to 4^level times an area is near to that area in the
--- customer's measure, a quarter of a square step times the number of edges.
+-- A drawn area, which is a figure over 4^level, beside the exact area: a figure that is near to 4^level times an area is near to that area: by at most
+-- a quarter of a square step for each edge.
 --
 -- Main results
 --   area-within                  where twice the figure's miss is at most as many units as there are cells, for each edge

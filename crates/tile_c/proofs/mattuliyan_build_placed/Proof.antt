@@ -1,9 +1,8 @@
 -- The numbers are a placement; `tile::build_placed` answers a struct, and an equation of structs is one of each field.
 use mathlib.Core.Path.{refl, _∙_, ap, subst}
 use borrow.Author.Needs.{needs}
-use Rattle.placement.specs.Placed.{placed}
-use Rattle.tile.specs.Outcomes.{placedRefusal, placedResult, placedTable}
-use Rattle.tile.specs.Faithful.{FaithfulOutline}
+use Rattle.tile.specs.Outcomes.{placedResult, placedTable}
+use Rattle.tile.specs.Faithful.{FaithfulPlaced}
 use Rattle.tile_c.proofs.mattuliyan_build_placed.Statement.{statement}
 use Rattle.tile_c.proofs.mattuliyan_build_placed.Tie as tie
 
@@ -22,7 +21,7 @@ returns c =
         (
           called .1 .0 ∙ ap (λ p. placedTable side points counts p table) is-placement,
           (
-            subst (λ p. FaithfulOutline side (placed p points) counts (placedRefusal side points counts p table) (c .before .build-placed .last .1 .1 .1 .1 .0)) is-placement
+            subst (λ p. FaithfulPlaced side points counts p table (c .before .build-placed .last .1 .1 .1 .1 .0)) is-placement
                 (called .1 .1 .0),
             (refl, refl, refl),
           ),
