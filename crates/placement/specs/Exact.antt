@@ -121,7 +121,7 @@ pub record ExactlyTested (limit : ℕ) (x : Float) : Type 0 where
   pub cut : toSigned 63 (mul binary64 x perStep) ≡ partsOf x
   pub cast-back : Value (ofInt binary64 (partsOf x)) (partsOf x) 1
 
--- every 64-bit float x within a limit that is at most `offsetLimit`
+-- every 64-bit float x, which `fits` says, within a limit that is at most `offsetLimit`
 pub exactly-tested : (limit : ℕ) → limit ≤ offsetLimit → (x : Float) → T (fits binary64 x) → Inside limit x → ExactlyTested limit x
 exactly-tested limit h x f i =
     let exact = scaled x f (inside-wider (le-trans h (lit≤ tt)) x i) in
