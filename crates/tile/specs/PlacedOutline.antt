@@ -7,7 +7,7 @@
 --   placed-as-built              so the answer and the table are those of building the outline as placed
 --   placed-none-as-built         with no placement they are building's, for every input
 --   placed-faithful              and what is left is drawn as `FaithfulPlaced` says
-use mathlib.Core.Path.{_≡_, sym, _∙_, ap, ap₂}
+use mathlib.Core.Path.{_≡_, refl, sym, _∙_, ap, ap₂}
 use mathlib.Core.Bool.{Bool}
 use mathlib.Core.List.{List, [], _∷_}
 use Prim.Native.Nat.{ℕ, _*_}
@@ -20,7 +20,7 @@ use Rattle.placement.specs.Placed.{placed}
 use Rattle.placement.specs.Laws.PlacedPoints.{placed-none, placed-length}
 use Rattle.accuracy.specs.Outline.{edgeCount}
 use Rattle.tile.specs.declared.Built.{Built}
-use Rattle.tile.specs.Questions.{Yes, firstNo, question1, question2, question3, question4, question5, question6, question12}
+use Rattle.tile.specs.Questions.{Yes, firstNo, question1, question2, question4, question5, question6, question12}
 use Rattle.tile.specs.Outcomes.{ifDone, tableOf, buildRefusal, buildResult, buildTable, placedRefusal, placedResult, placedTable}
 use Rattle.tile.specs.Faithful.{FaithfulPlaced}
 use Rattle.tile.specs.Theorem.{outline-faithful}
@@ -49,15 +49,12 @@ module _ (side : ℕ) (points : List ℤ) (counts : List ℕ) (table : List ℤ)
       let n = placed-number placement asked in
       (ap (λ m. answer m counts) n, ap (λ m. ifDone m (tableOf side (placed placement points) counts) table) n)
 
-  none-number : placedRefusal side points counts None table ≡ buildRefusal side points counts table
-  none-number =
-      ap (λ l. firstNo (question1 side ∷ question2 side table ∷ question4 counts ∷ question5 counts ∷ question3 points counts ∷ question6 side l ∷ []))
-      (placed-none points)
-
   pub placed-none-as-built : (placedResult side points counts None table ≡ buildResult side points counts table)
       × (placedTable side points counts None table ≡ buildTable side points counts table)
   placed-none-as-built =
-      (ap (λ m. answer m counts) none-number, ap₂ (λ m l. ifDone m (tableOf side l counts) table) none-number (placed-none points))
+      let same = placed-as-built None refl in
+      let still = placed-none points in
+      (same .0 ∙ ap (λ l. buildResult side l counts table) still, same .1 ∙ ap (λ l. buildTable side l counts table) still)
 
 pub placed-faithful : (side : ℕ) (points : List ℤ) (counts : List ℕ) (placement : Placement) (before : List ℤ)
     → FaithfulPlaced side points counts placement before (placedTable side points counts placement before)

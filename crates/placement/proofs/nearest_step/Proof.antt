@@ -1,7 +1,7 @@
 -- v × 65,536 is exact and whole, so it is cut to the number of its parts; half a step is added, and the sum shifted.
 use mathlib.Core.Path.{_≡_, _∙_, subst⁻¹}
 use mathlib.Core.List.{[], _∷_}
-use Prim.Native.Nat.{_*_, _^_, _≤_}
+use Prim.Native.Nat.{_*_, _≤_}
 use native.Mathlib.Nat.{le-trans}
 use lib.Dec.{lit≤}
 use lib.IntN.{pos, natAbs}
