@@ -38,6 +38,8 @@ pub mod ListSum
 pub mod Tests
 pub mod Conjunction
 pub mod Every
+-- a search that ends at the first element that fails a test
+pub mod Search
 -- the two roundings
 pub mod Rounding
 pub mod RoundHalfAway

@@ -1,12 +1,14 @@
--- Tests, which code answers with true or false, and what each says: it is true exactly where a proposition holds. Acceptance is asked by them.
+-- Tests, which code answers with true or false, and what each says: it is true exactly where a proposition holds. The questions of 01 and 02 are tests.
 --
 -- Definitions
 --   every test l, oneOf n l                         the test holds of every element; n is an element
 --   between low high z                              z is from low to high
+--   OneOf n l                                       n is an element, as a proposition
 -- Main results
 --   eqb-means, leb-means, ltb-means, leZ-means      equality and order
---   and-means, every-means, between-means           both; of every element; from low to high
---   OneOf n l, one-of-means                         n is an element of l
+--   and-means, every-means                          both; of every element
+--   between-means, within-means                     from low to high; from −b to b
+--   one-of-means                                    n is an element of l
 --   no-means                                        false exactly where the proposition does not hold
 use mathlib.Core.Path.{_≡_, refl, sym}
 use mathlib.Core.List.{List, [], _∷_}
@@ -14,10 +16,11 @@ use mathlib.Core.Logic.{_↔_, _⊎_, inl, inr, ⊎-elim}
 use mathlib.Core.Bool.{Bool, true, false, _&&_, _||_, true≢false}
 use Prim.Native.Nat.{ℕ, _<_, _≤_}
 use lib.Dec.{T, eqb, leb, ltb}
-use lib.IntN.{ℤ}
+use lib.IntN.{ℤ, negℤ}
 use lib.Signed.{leZ, _≤ℤ_}
 use borrow.Author.Tests.{eqb-true, leb-true, ltb-true, eq-eqb, le-leb, lt-ltb}
 use Rattle.integers.specs.Order.{leZ-true}
+use Rattle.integers.specs.Within.{Within}
 use Rattle.integers.specs.ListSum.{All}
 
 abbrev pub every : {A : Type 0} → (A → Bool) → List A → Bool
@@ -59,6 +62,9 @@ every-means test p (a ∷ l) = and-means (test a) (every test l) (p a) (every-me
 
 pub between-means : (low high z : ℤ) → (between low high z ≡ true) ↔ ((low ≤ℤ z) × (z ≤ℤ high))
 between-means low high z = and-means (leZ low z) (leZ z high) (leZ-means low z) (leZ-means z high)
+
+pub within-means : (b z : ℤ) → (between (negℤ b) b z ≡ true) ↔ Within b z
+within-means b z = let m = between-means (negℤ b) b z in (λ e. record { low = m .0 e .0; high = m .0 e .1 }, λ w. m .1 (w .low, w .high))
 
 -- n is an element of l
 abbrev pub OneOf : ℕ → List ℕ → Type 0

@@ -25,5 +25,7 @@ pub mod PlacedOutline
 pub mod Letters
 -- ---- what inner functions answer
 pub mod Inner
+-- ---- and the search behind question 9 (02, P2)
+pub mod EntrySearch
 -- ---- how it is proved
 pub mod Laws

@@ -39,7 +39,7 @@ use Rattle.tile.specs.Questions.{buildingQuestions, placedQuestions, dra
 use Rattle.tile.specs.Outcomes.{tableOf, buildRefusal, buildResult, buildTable, placedRefusal, placedResult, placedTable, drawRefusal, figuresPicture, greysPicture, cellRefusal, cellResult}
 use Rattle.tile.specs.Laws.IfDone.{if-refused}
 use Rattle.tile.specs.Laws.Sides.{side-power, side-depth}
-use Rattle.integers.specs.Tests.{eqb-means, leb-means, ltb-means, and-means, every-means, between-means, OneOf, one-of-means}
+use Rattle.integers.specs.Tests.{eqb-means, leb-means, ltb-means, and-means, every-means, between-means, within-means, OneOf, one-of-means}
 use Rattle.tile.specs.Laws.FirstNo.{each-number, firstNo-among}
 
 -- ---- "Building: 1, 2, 4, 5, 3, 6."
@@ -239,9 +239,7 @@ question8-means level size = eqb-means size (4 ^ level)
 
 -- "Is every entry of the table from −2^40 to 2^40?"
 pub question9-means : (table : List ℤ) → Yes (question9 table) ↔ All (Within (pos entryLimit)) table
-question9-means table =
-    every-means (λ z. leZ (negℤ (pos entryLimit)) z && leZ z (pos entryLimit))
-    (λ z. let b = between-means (negℤ (pos entryLimit)) (pos entryLimit) z in (λ y. record { low = b .0 y .0; high = b .0 y .1 }, λ w. b .1 (w .low, w .high))) table
+question9-means table = every-means (λ z. leZ (negℤ (pos entryLimit)) z && leZ z (pos entryLimit)) (within-means (pos entryLimit)) table
 
 -- "Are both cell numbers below 2^level?"
 pub question10-means : (level cx cy : ℕ) → Yes (question10 level cx cy) ↔ ((cx < 2 ^ level) × (cy < 2 ^ level))

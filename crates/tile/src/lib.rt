@@ -13,6 +13,8 @@ ghost use Rattle.tile.specs.Questions.{depthOf, firstNo, question1, ques
 ghost use Rattle.tile.specs.Outcomes.{buildResult, buildTable, placedRefusal, placedResult, placedTable, drawRefusal, figuresPicture, greysPicture, cellRefusal, cellResult};
 ghost use Rattle.tile.specs.Faithful.{Faithful, FaithfulPlaced};
 ghost use Rattle.tile.specs.Inner.{cappedEdges, levelQuestions};
+ghost use Rattle.tile.specs.EntrySearch.{entriesLookedAt};
+use integers::Searched;
 use placement::Placement;
 
 // What building answers: the number of its refusal, or 0, and the edge count.
@@ -158,11 +160,13 @@ fn is_picture(level: u32, size: usize) -> bool
     size == n * n
 }
 
-// Question 9, which looks at the whole table whatever is drawn of it.
-fn in_range(table: &[i64]) -> bool
-    ensures { λ b. ⌜ b ≡ question9 (now (table .entry)) .answer ⌝ }
+// Question 9, which is asked of the whole table whatever is drawn of it. How many entries were looked at is 02's answer beside it: what the two say is
+// in specs/EntrySearch. The functions below ask question 9 through this one alone, and pass no count on.
+fn search_entries(table: &[i64]) -> Searched
+    ensures { λ s. ⌜ s .within ≡ question9 (now (table .entry)) .answer ⌝ }
+    ensures { λ s. ⌜ s .looked ≡ entriesLookedAt (now (table .entry)) ⌝ }
 {
-    integers::all_within(table, -ENTRY_LIMIT, ENTRY_LIMIT)
+    integers::search_within(table, -ENTRY_LIMIT, ENTRY_LIMIT)
 }
 
 // Question 10.
@@ -236,7 +240,7 @@ fn draw_refusal(side: u32, level: u32, table: &[i64], size: usize) -> u32
     if !is_picture(level, size) {
         return NO_PICTURE;
     }
-    if !in_range(table) {
+    if !search_entries(table).within {
         return NO_RANGE;
     }
     DONE
@@ -253,7 +257,7 @@ fn cell_refusal(side: u32, level: u32, cx: u32, cy: u32, table: &[i64]) -> u32
     if !is_cell(level, cx, cy) {
         return NO_CELL;
     }
-    if !in_range(table) {
+    if !search_entries(table).within {
         return NO_RANGE;
     }
     DONE

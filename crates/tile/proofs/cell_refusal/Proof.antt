@@ -37,10 +37,10 @@ after-4 : (c : tie.Else2) → After (questions (c .before .before .before .befor
 after-4 c = passed (after-3 (c .before .before)) (c .before .is-cell .ensures) (c .if2 .left)
 
 returns-3 : tie.Need-returns-3
-returns-3 c = refused (after-4 (c .before .before)) (c .before .in-range .ensures) (c .if3 .taken)
+returns-3 c = refused (after-4 (c .before .before .before)) (c .before .before .search-entries .ensures .0) (c .if3 .taken)
 
 returns-4 : tie.Need-returns-4
-returns-4 c = sym (passed (after-4 (c .before .before)) (c .before .in-range .ensures) (c .if3 .left) .same)
+returns-4 c = sym (passed (after-4 (c .before .before .before)) (c .before .before .search-entries .ensures .0) (c .if3 .left) .same)
 
 pub cell-refusal-spec : {M : Type 1} → statement M
 cell-refusal-spec =

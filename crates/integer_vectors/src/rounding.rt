@@ -1,5 +1,5 @@
-// Runs `integers::div_round_half_away` as it is compiled, and prints each answer on a line. `stdout` has what it must print, worked out
-// another way: in exact fractions, of the two whole numbers around n / d the one at the smaller distance, and at equal distances the one of larger magnitude.
+// Quotients, rounded: each answer of `div_round_half_away` on a line. What must be printed was worked out another way: in exact fractions, of the two
+// whole numbers around n / d the one at the smaller distance, and at equal distances the one of larger magnitude.
 use integers::div_round_half_away;
 use vector_print::decimal;
 use vector_print::words;
@@ -69,7 +69,7 @@ fn extremes() {
     show(0, 9223372036854775807);
 }
 
-fn main() {
+pub fn show_all() {
     small();
     letters();
     numerators();
