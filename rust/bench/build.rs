@@ -27,6 +27,9 @@ fn main() {
     println!("cargo::rerun-if-changed=shims");
     let rustc = env::var("RUSTC").unwrap_or_else(|_| "rustc".into());
     set("BENCH_RUSTC", first_line(&rustc, &["--version"]));
+    // cargo hands on what the build script of `mattuliyan` prints as `archive`
+    let archive = env::var("DEP_TILE_C_ARCHIVE").expect("the build script of mattuliyan names its archive");
+    set("BENCH_ARCHIVE", Some(archive));
     for variable in ["PKG_CONFIG_PATH", "PKG_CONFIG_LIBDIR"] {
         println!("cargo::rerun-if-env-changed={variable}");
     }
@@ -83,7 +86,7 @@ fn compile(shim: &Shim, out: &Path) -> Option<()> {
     Some(())
 }
 
-/// Hands a version to the program, for its page.
+/// Hands the program what is known here: a version, for its page, or a path.
 fn set(variable: &str, value: Option<String>) {
     if let Some(value) = value {
         println!("cargo::rustc-env={variable}={value}");

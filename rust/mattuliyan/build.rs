@@ -23,6 +23,7 @@ fn main() {
     fs::copy(top.join("target/staticlib/libtile_c.a"), &archive).expect("rt staticlib tile_c left no archive");
     println!("cargo::rustc-link-search=native={}", Path::new(&out).display());
     println!("cargo::rustc-link-lib=static=tile_c");
-    // for the test of the C header, which links the same archive
+    // for the test of the C header, which links the same archive, and for the build script of a crate that depends on this one
     println!("cargo::rustc-env=TILE_C_ARCHIVE={}", archive.display());
+    println!("cargo::metadata=archive={}", archive.display());
 }

@@ -2,14 +2,56 @@
 //! difference is one run, whatever starting and preparing cost.
 
 use crate::cases::{Case, Work, CASES};
+use crate::cells::{Calls, Cells, Damage, Version, DAMAGES};
 use crate::inputs::{Input, INPUTS};
 use crate::profile::Profile;
-use std::path::PathBuf;
+use crate::reads::{self, Reads};
+use std::path::{Path, PathBuf};
 use std::process::Command;
 use std::{env, fs, process};
 
 /// The argument, not for users, by which the program runs a case so many times and nothing else.
 pub const COUNT: &str = "--count";
+
+/// A case, by words that the program can be given: of an outline, or of cells.
+pub struct Counted(Vec<String>);
+
+const OUTLINE: &str = "outline";
+const CELLS: &str = "cells";
+
+impl Counted {
+    /// On the first outline.
+    pub fn outline(input: Input, case: Case) -> Counted {
+        Counted(vec![OUTLINE.into(), place(&INPUTS, input), place(&CASES, case)])
+    }
+
+    /// Of the library as it is now, or of the archive.
+    pub fn cells(damage: Damage, archive: Option<&Path>) -> Counted {
+        let mut words = vec![CELLS.into(), place(&DAMAGES, damage)];
+        words.extend(archive.map(|archive| archive.display().to_string()));
+        Counted(words)
+    }
+
+    /// Prepares the case that the words name, and runs it so many times.
+    fn run(words: &[&str], times: usize) -> Result<(), String> {
+        match words {
+            [OUTLINE, input, case] => {
+                let input = at(&INPUTS, input).ok_or("no such input")?;
+                let case = at(&CASES, case).ok_or("no such case")?;
+                let mut work = Work::new(input, 1)?;
+                (0..times).try_for_each(|_| work.run_all(case))
+            }
+            [CELLS, damage, archive @ ..] if archive.len() <= 1 => {
+                let damage = at(&DAMAGES, damage).ok_or("no such damage")?;
+                let before = archive.first().map(Path::new);
+                let version = if before.is_some() { Version::Before } else { Version::Now };
+                let cells = Cells::new(before)?;
+                (0..times).try_for_each(|_| cells.run(Calls { version, damage }))
+            }
+            _ => Err("no such case".into()),
+        }
+    }
+}
 
 /// Valgrind and a folder for what it writes, which is removed at the end.
 pub struct Counter {
@@ -29,18 +71,24 @@ impl Counter {
     }
 
     /// What one run of a case costs, function by function.
-    pub fn profile(&self, input: Input, case: Case) -> Result<Profile, String> {
-        Ok(self.run(input, case, 2)?.less(&self.run(input, case, 1)?))
+    pub fn profile(&self, counted: &Counted) -> Result<Profile, String> {
+        Ok(self.run(counted, 2)?.less(&self.run(counted, 1)?))
     }
 
-    fn run(&self, input: Input, case: Case, times: u32) -> Result<Profile, String> {
+    /// What one call for a cell loads from its table.
+    pub fn reads(&self, damage: Damage) -> Result<Reads, String> {
+        reads::reads(damage, &self.folder)
+    }
+
+    fn run(&self, counted: &Counted, times: u32) -> Result<Profile, String> {
         let file = self.folder.join("callgrind.out");
         let program = env::current_exe().map_err(|error| error.to_string())?;
         let output = Command::new("valgrind")
             .args(["--tool=callgrind", "--quiet"])
             .arg(format!("--callgrind-out-file={}", file.display()))
             .arg(program)
-            .args([COUNT, &place(&INPUTS, input), &place(&CASES, case), &times.to_string()])
+            .args([COUNT, &times.to_string()])
+            .args(&counted.0)
             .output()
             .map_err(|error| error.to_string())?;
         if !output.status.success() {
@@ -59,44 +107,72 @@ impl Drop for Counter {
     }
 }
 
-/// What the program does under valgrind, on the first outline: the input and the case by their places, and how many times.
+/// What the program does under valgrind: how many times, and the words of a case.
 pub fn run_counted(arguments: &[String]) -> Result<(), String> {
-    let number = |i: usize| arguments.get(i)?.parse::<usize>().ok();
-    let input = number(0).and_then(|i| INPUTS.get(i)).ok_or("no such input")?;
-    let case = number(1).and_then(|i| CASES.get(i)).ok_or("no such case")?;
-    let times = number(2).ok_or("no number of times")?;
-    let mut work = Work::new(*input, 1)?;
-    for _ in 0..times {
-        work.run_all(*case)?;
-    }
-    Ok(())
+    let words: Vec<&str> = arguments.iter().map(String::as_str).collect();
+    let (times, words) = words.split_first().ok_or("no number of times")?;
+    Counted::run(words, times.parse().map_err(|_| "no number of times")?)
 }
 
 fn place<T: PartialEq>(all: &[T], one: T) -> String {
     let place = all.iter().position(|each| *each == one);
-    place.expect("every input and case is in its list").to_string()
+    place.expect("every input, case and damage is in its list").to_string()
+}
+
+fn at<T: Copy>(all: &[T], place: &str) -> Option<T> {
+    all.get(place.parse::<usize>().ok()?).copied()
 }
 
 #[cfg(test)]
 mod tests {
     use super::*;
 
-    fn arguments(words: &[&str]) -> Vec<String> {
-        words.iter().map(|word| word.to_string()).collect()
+    use crate::library::with_another;
+
+    fn run(times: &str, Counted(words): Counted) -> Result<(), String> {
+        run_counted(&[vec![times.to_string()], words].concat())
     }
 
     #[test]
-    fn a_case_is_found_by_its_place() {
+    fn places_are_read_as_they_are_written() {
+        fn is_found<T: Copy + PartialEq>(all: &[T]) -> bool {
+            all.iter().all(|&each| at(all, &place(all, each)) == Some(each))
+        }
+        assert!(is_found(&INPUTS) && is_found(&CASES) && is_found(&DAMAGES));
+    }
+
+    #[test]
+    fn a_case_is_found_by_its_words() {
         for input in INPUTS {
-            assert_eq!(run_counted(&arguments(&[&place(&INPUTS, input), &place(&CASES, Case::Build), "2"])), Ok(()));
+            assert_eq!(run("2", Counted::outline(input, Case::Build)), Ok(()));
+        }
+        for damage in DAMAGES {
+            assert_eq!(run("2", Counted::cells(damage, None)), Ok(()));
+            // a library whose answers are not those that are expected
+            assert!(with_another(|object| run("1", Counted::cells(damage, Some(object)))).is_err());
         }
     }
 
     #[test]
     fn other_words_are_refused() {
         let past_all = CASES.len().to_string();
-        for words in [&[][..], &["2", "0", "1"], &["0", &past_all, "1"], &["0", "0"], &["0", "0", "x"]] {
-            assert!(run_counted(&arguments(words)).is_err(), "{words:?}");
+        let archive = crate::library::ARCHIVE;
+        let refused: [&[&str]; 10] = [
+            &[],
+            &["1"],
+            &["x", OUTLINE, "0", "0"],
+            &["1", OUTLINE, "2", "0"],
+            &["1", OUTLINE, "0", &past_all],
+            &["1", OUTLINE, "0"],
+            &["1", CELLS],
+            &["1", CELLS, "3"],
+            &["1", CELLS, "0", "no archive"],
+            &["1", CELLS, "0", archive, archive],
+        ];
+        for words in refused {
+            let arguments: Vec<String> = words.iter().map(|word| word.to_string()).collect();
+            assert!(run_counted(&arguments).is_err(), "{words:?}");
         }
+        assert_eq!(run("1", Counted::cells(Damage::Front, Some(Path::new(archive)))), Ok(()));
     }
 }

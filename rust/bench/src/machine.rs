@@ -2,6 +2,7 @@
 
 use crate::others::LIBRARIES;
 use std::fs;
+use std::path::Path;
 use std::process::Command;
 
 pub struct Machine {
@@ -29,6 +30,18 @@ fn rattle() -> Option<String> {
     Some(String::from_utf8(output.stdout).ok()?.lines().next()?.to_string())
 }
 
+/// The commit that is checked out where a library lies.
+pub fn commit(archive: &Path) -> String {
+    let folder = archive.parent().filter(|folder| !folder.as_os_str().is_empty()).unwrap_or(Path::new("."));
+    let described =
+        Command::new("git").arg("-C").arg(folder).args(["describe", "--always", "--dirty", "--exclude=*"]).output();
+    let described = described.ok().filter(|output| output.status.success());
+    match described.and_then(|output| String::from_utf8(output.stdout).ok()) {
+        Some(name) => format!("commit {}", name.trim()),
+        None => "an unknown commit".into(),
+    }
+}
+
 /// The name that the processor gives itself, which may be no more than a family's, with the numbers that tell its kind; and how many the
 /// system has.
 fn processor(cpuinfo: &str) -> (String, usize) {
@@ -49,6 +62,23 @@ fn processor(cpuinfo: &str) -> (String, usize) {
 #[cfg(test)]
 mod tests {
     use super::*;
+
+    #[test]
+    fn a_library_has_the_commit_of_its_checkout() {
+        assert_eq!(commit(Path::new("/no-such-folder/libtile_c.a")), "an unknown commit");
+        let folder = std::env::temp_dir().join(format!("mattuliyan-checkout-{}", std::process::id()));
+        fs::create_dir(&folder).unwrap();
+        let git = |words: &[&str]| Command::new("git").arg("-C").arg(&folder).args(words).status();
+        let made = git(&["init", "--quiet"]).and_then(|_| {
+            git(&["-c", "user.name=a", "-c", "user.email=a@b", "commit", "--quiet", "--allow-empty", "--message=a"])
+        });
+        let named = commit(&folder.join("libtile_c.a"));
+        fs::remove_dir_all(&folder).unwrap();
+        match made {
+            Ok(status) => assert!(status.success() && named.starts_with("commit "), "{named}"),
+            Err(_) => println!("git is not installed; a commit is not looked for"),
+        }
+    }
 
     #[test]
     fn processors_are_counted() {

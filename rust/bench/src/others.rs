@@ -1,4 +1,4 @@
-//! FreeType and AGG, through the shims. This is the only file with unsafe code.
+//! FreeType and AGG, through the shims. Unsafe code is here and in `library.rs` only.
 
 use crate::inputs::{Outline, DEPTH, EDGES, SIDE};
 use std::ffi::c_void;

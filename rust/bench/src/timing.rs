@@ -1,13 +1,11 @@
 //! Times, taken in rounds: each round runs every case, so that a processor that slows down slows all of them.
 
-use crate::cases::{Case, Work};
 use std::time::{Duration, Instant};
 
 /// Odd, so that the median is a round's own number.
 pub const ROUNDS: usize = 101;
 
-/// A sample runs one case on all outlines, again and again for at least this long: the clock's own cost and grain are lost
-/// in it.
+/// A sample runs one case again and again for at least this long: the clock's own cost and grain are lost in it.
 pub const SAMPLE: Duration = Duration::from_millis(2);
 
 /// The median and the quartiles.
@@ -31,61 +29,76 @@ impl Spread {
     }
 }
 
-/// The seconds that each case took for an outline, in each round.
-pub struct Times {
-    cases: Vec<Case>,
+/// The seconds that each case took for one outline, or one call, in each round.
+pub struct Times<C> {
+    cases: Vec<C>,
     rounds: Vec<Vec<f64>>,
 }
 
-impl Times {
-    pub fn measure(work: &mut Work) -> Result<Times, String> {
-        let cases = Case::all();
+impl<C: Copy + PartialEq> Times<C> {
+    /// One run of a case is so many outlines or calls.
+    pub fn measure(
+        cases: Vec<C>,
+        each: usize,
+        mut run: impl FnMut(C) -> Result<(), String>,
+    ) -> Result<Times<C>, String> {
         let mut repeats = Vec::new();
         for &case in &cases {
-            repeats.push(enough(work, case)?);
+            repeats.push(enough(|| run(case))?);
         }
         let mut rounds = Vec::new();
         for _ in 0..ROUNDS {
             let mut round = Vec::new();
             for (&case, &n) in cases.iter().zip(&repeats) {
-                round.push(time(work, case, n)?.as_secs_f64() / (n * work.outlines()) as f64);
+                round.push(seconds_each(time(|| run(case), n)?, n, each));
             }
             rounds.push(round);
         }
         Ok(Times { cases, rounds })
     }
 
-    fn place(&self, case: Case) -> Option<usize> {
+    /// As if they had been measured.
+    #[cfg(test)]
+    pub fn of(cases: Vec<C>, rounds: Vec<Vec<f64>>) -> Times<C> {
+        Times { cases, rounds }
+    }
+
+    fn place(&self, case: C) -> Option<usize> {
         self.cases.iter().position(|&each| each == case)
     }
 
-    pub fn spread(&self, case: Case) -> Option<Spread> {
+    pub fn spread(&self, case: C) -> Option<Spread> {
         let place = self.place(case)?;
         let times: Vec<f64> = self.rounds.iter().map(|round| round[place]).collect();
         Some(Spread::of(&times))
     }
 
     /// A case's time over that of another in the same round.
-    pub fn ratio(&self, case: Case, to: Case) -> Option<Spread> {
+    pub fn ratio(&self, case: C, to: C) -> Option<Spread> {
         let (place, other) = (self.place(case)?, self.place(to)?);
         let ratios: Vec<f64> = self.rounds.iter().map(|round| round[place] / round[other]).collect();
         Some(Spread::of(&ratios))
     }
 }
 
-/// How many times all outlines make a sample. Finding it out warms caches and the processor up.
-fn enough(work: &mut Work, case: Case) -> Result<usize, String> {
+/// Of so many runs, each of so many outlines or calls.
+fn seconds_each(total: Duration, runs: usize, each: usize) -> f64 {
+    total.as_secs_f64() / (runs * each) as f64
+}
+
+/// How many runs make a sample. Finding it out warms caches and the processor up.
+fn enough(mut run: impl FnMut() -> Result<(), String>) -> Result<usize, String> {
     let mut n = 1;
-    while time(work, case, n)? < SAMPLE {
+    while time(&mut run, n)? < SAMPLE {
         n *= 2;
     }
     Ok(n)
 }
 
-fn time(work: &mut Work, case: Case, n: usize) -> Result<Duration, String> {
+fn time(mut run: impl FnMut() -> Result<(), String>, n: usize) -> Result<Duration, String> {
     let start = Instant::now();
     for _ in 0..n {
-        work.run_all(case)?;
+        run()?;
     }
     Ok(start.elapsed())
 }
@@ -108,15 +121,34 @@ mod tests {
 
     #[test]
     fn ratios_are_taken_round_by_round() {
-        let case = Case::all();
-        let times = Times {
-            cases: case[..2].to_vec(),
-            // the second round is three times as slow, and the ratio is the same
-            rounds: vec![vec![2.0, 8.0], vec![6.0, 24.0]],
-        };
-        let ratio = times.ratio(case[1], case[0]).unwrap();
+        // the second round is three times as slow, and the ratio is the same
+        let times = Times { cases: vec!['a', 'b'], rounds: vec![vec![2.0, 8.0], vec![6.0, 24.0]] };
+        let ratio = times.ratio('b', 'a').unwrap();
         assert_eq!((ratio.lower, ratio.median, ratio.upper), (4.0, 4.0, 4.0));
-        assert_eq!(times.spread(case[0]).unwrap().median, 4.0);
-        assert_eq!(times.spread(case[2]), None);
+        assert_eq!(times.spread('a').unwrap().median, 4.0);
+        assert_eq!(times.spread('c'), None);
+    }
+
+    #[test]
+    fn every_case_runs_in_every_round_and_an_error_ends_it() {
+        let mut runs = [0; 2];
+        let times = Times::measure(vec![0, 1], 1, |case: usize| {
+            runs[case] += 1;
+            std::thread::sleep(SAMPLE);
+            Ok(())
+        });
+        assert!(times.is_ok() && runs.iter().all(|&n| n > ROUNDS));
+        assert_eq!(seconds_each(Duration::from_secs(3), 2, 5), 0.3);
+        let mut left = ROUNDS;
+        let failing = Times::measure(vec![0], 1, |_| {
+            std::thread::sleep(SAMPLE);
+            left -= 1;
+            if left == 0 {
+                Err("no".to_string())
+            } else {
+                Ok(())
+            }
+        });
+        assert!(failing.is_err_and(|message| message == "no"));
     }
 }

@@ -1,4 +1,5 @@
-//! The C header: it compiles, what it declares is what the archive has, and C gets the right answers through it.
+//! The C header: it compiles, what it declares is what the archive has, and C gets the right answers through it. A second program of C shows what the
+//! search behind question 9 reads.
 use std::path::{Path, PathBuf};
 use std::process::Command;
 
@@ -119,10 +120,10 @@ fn declarations_agree() {
     assert_eq!(symbols, names);
 }
 
-#[test]
-fn answers_in_c() {
-    let program = Path::new(env!("CARGO_TARGET_TMPDIR")).join("header");
-    let source = Path::new(env!("CARGO_MANIFEST_DIR")).join("tests/header.c");
+/// What a C program of this folder prints.
+fn printed_in_c(name: &str) -> String {
+    let program = Path::new(env!("CARGO_TARGET_TMPDIR")).join(name);
+    let source = Path::new(env!("CARGO_MANIFEST_DIR")).join("tests").join(name).with_extension("c");
     run(Command::new("cc").args(["-std=c99", "-Wall", "-Wextra", "-Wpedantic", "-Werror", "-I"]).args([
         &include(),
         &source,
@@ -130,8 +131,24 @@ fn answers_in_c() {
         Path::new("-o"),
         &program,
     ]));
+    run(&mut Command::new(program))
+}
+
+#[test]
+fn answers_in_c() {
     let answers = "3 0 7\n12 0 7\n0 3 4 0 4 0\n0 3 384 299 384 299\n8 7\n0 1366 170 0 0\n7 7\n0 1 0 0 0\n10 0\n0 170\n";
-    assert_eq!(run(&mut Command::new(program)), answers);
+    assert_eq!(printed_in_c("header"), answers);
+}
+
+#[test]
+fn no_entry_is_read_after_the_first_out_of_range() {
+    let printed = printed_in_c("reads");
+    assert_eq!(printed.lines().count(), 3 * 16);
+    for line in printed.lines() {
+        // where the last entry of all is in range, there is none after it to be read
+        let expected = if line.contains(" 4095:") { "9 0" } else { "9 x" };
+        assert_eq!(line.split_once(": ").map(|(_, answers)| answers), Some(expected), "{line}");
+    }
 }
 
 #[test]

@@ -1,0 +1,88 @@
+/* Question 9's search reads no entry after the first that is out of range. What lies after that entry cannot be read here, and a call that
+ * read it would be stopped. The header forbids such a table to callers; this program uses one, to show what the compiled search reads.
+ * (Memory is shut off by the page, so a search that loads blocks which never cross one is not seen here. The benchmark counts loads.)
+ *
+ * One line for each call and each place of the entry: what is answered where the entry is out of range; and where it is in range, so that
+ * the search has to go on. x stands for a call that is stopped at the next entry. */
+#define _DEFAULT_SOURCE
+#include "mattuliyan.h"
+
+#include <signal.h>
+#include <stdint.h>
+#include <stdio.h>
+#include <stdlib.h>
+#include <sys/mman.h>
+#include <sys/wait.h>
+#include <unistd.h>
+
+enum { SIDE = 64, LEVEL = 6, ENTRIES = SIDE * SIDE };
+
+enum { STOPPED = 100, STOPPED_ELSEWHERE }; /* exit statuses: no question has these numbers */
+
+static const int64_t most = INT64_C(1) << 40; /* that question 9 lets pass */
+
+static int64_t *end; /* of what can be read */
+
+static uint32_t figures(const int64_t *table) {
+    static int64_t picture[ENTRIES];
+    return mattuliyan_figures(SIDE, LEVEL, table, ENTRIES, picture, ENTRIES);
+}
+
+static uint32_t greys(const int64_t *table) {
+    static uint8_t picture[ENTRIES];
+    return mattuliyan_greys(SIDE, LEVEL, table, ENTRIES, picture, ENTRIES);
+}
+
+static uint32_t cell(const int64_t *table) {
+    int64_t figure;
+    return mattuliyan_cell(SIDE, LEVEL, 5, 9, table, ENTRIES, &figure);
+}
+
+static void fail(const char *what) {
+    perror(what);
+    exit(1);
+}
+
+static void stop(int signal, siginfo_t *information, void *context) {
+    (void)signal, (void)context;
+    _exit(information->si_addr == end ? STOPPED : STOPPED_ELSEWHERE);
+}
+
+/* Makes a call in a process of its own, and prints its answer. */
+static void answer(uint32_t (*call)(const int64_t *), const int64_t *table) {
+    int status;
+    pid_t child = fork();
+    if (child < 0) fail("fork");
+    if (child == 0) _exit((int)call(table));
+    if (waitpid(child, &status, 0) < 0) fail("waitpid");
+    if (WIFEXITED(status) && WEXITSTATUS(status) < STOPPED) printf(" %d", WEXITSTATUS(status));
+    else printf(WIFEXITED(status) && WEXITSTATUS(status) == STOPPED ? " x" : " ?");
+}
+
+int main(void) {
+    static uint32_t (*const calls[])(const int64_t *) = {figures, greys, cell};
+    static const char *const names[] = {"figures", "greys", "cell"};
+    static const size_t places[] = {0, 1, 2, 3, 4, 7, 8, 15, 16, 63, 64, 511, 512, 1000, ENTRIES - 2, ENTRIES - 1};
+    const struct sigaction action = {.sa_sigaction = stop, .sa_flags = SA_SIGINFO};
+    const size_t page = (size_t)sysconf(_SC_PAGESIZE);
+    const size_t bytes = (ENTRIES * sizeof(int64_t) + page - 1) / page * page;
+    char *memory = mmap(NULL, 2 * bytes, PROT_READ | PROT_WRITE, MAP_PRIVATE | MAP_ANONYMOUS, -1, 0);
+
+    if (memory == MAP_FAILED) fail("mmap");
+    end = (int64_t *)(memory + bytes);
+    if (mprotect(end, bytes, PROT_NONE) != 0) fail("mprotect");
+    if (sigaction(SIGSEGV, &action, NULL) != 0 || sigaction(SIGBUS, &action, NULL) != 0) fail("sigaction");
+    for (size_t c = 0; c < sizeof calls / sizeof *calls; c++) {
+        for (size_t p = 0; p < sizeof places / sizeof *places; p++) {
+            int64_t *table = end - (places[p] + 1); /* so that the place is the last that can be read */
+            for (int64_t *entry = table; entry < end; entry++) *entry = (entry - table) % 2 ? most : -most;
+            printf("%s %zu:", names[c], places[p]);
+            end[-1] = p % 2 ? most + 1 : -most - 1;
+            answer(calls[c], table);
+            end[-1] = p % 2 ? most : -most;
+            answer(calls[c], table);
+            printf("\n");
+        }
+    }
+    return 0;
+}
