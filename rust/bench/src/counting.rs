@@ -3,12 +3,13 @@
 
 use crate::cases::{Case, Work, CASES};
 use crate::cells::{Calls, Cells, Damage, Version, DAMAGES};
+use crate::folder::Folder;
 use crate::inputs::{Input, INPUTS};
 use crate::profile::Profile;
 use crate::reads::{self, Reads};
-use std::path::{Path, PathBuf};
+use std::path::Path;
 use std::process::Command;
-use std::{env, fs, process};
+use std::{env, fs};
 
 /// The argument, not for users, by which the program runs a case so many times and nothing else.
 pub const COUNT: &str = "--count";
@@ -53,9 +54,9 @@ impl Counted {
     }
 }
 
-/// Valgrind and a folder for what it writes, which is removed at the end.
+/// Valgrind and a folder for what it writes.
 pub struct Counter {
-    folder: PathBuf,
+    folder: Folder,
 }
 
 impl Counter {
@@ -65,9 +66,7 @@ impl Counter {
         if !version.is_ok_and(|output| output.status.success()) {
             return Err("valgrind was not found. On Debian it is in `valgrind`".into());
         }
-        let folder = env::temp_dir().join(format!("mattuliyan-bench-{}", process::id()));
-        fs::create_dir(&folder).map_err(|error| format!("there was no room for valgrind's files: {error}"))?;
-        Ok(Counter { folder })
+        Ok(Counter { folder: Folder::new()? })
     }
 
     /// What one run of a case costs, function by function.
@@ -77,11 +76,11 @@ impl Counter {
 
     /// What one call for a cell loads from its table.
     pub fn reads(&self, damage: Damage) -> Result<Reads, String> {
-        reads::reads(damage, &self.folder)
+        reads::reads(damage, &self.folder.0)
     }
 
     fn run(&self, counted: &Counted, times: u32) -> Result<Profile, String> {
-        let file = self.folder.join("callgrind.out");
+        let file = self.folder.0.join("callgrind.out");
         let program = env::current_exe().map_err(|error| error.to_string())?;
         let output = Command::new("valgrind")
             .args(["--tool=callgrind", "--quiet"])
@@ -97,13 +96,6 @@ impl Counter {
         }
         let text = fs::read(&file).map_err(|error| error.to_string())?;
         Profile::parse(&String::from_utf8_lossy(&text))
-    }
-}
-
-impl Drop for Counter {
-    fn drop(&mut self) {
-        // Left over in the temporary folder it would do no harm.
-        let _ = fs::remove_dir_all(&self.folder);
     }
 }
 

@@ -1,11 +1,10 @@
 //! The call for one cell as C has it, of the library as it is now and of one that was made before. Both are opened alike, so that neither gains by
 //! how it is called.
 
+use crate::folder::Folder;
 use std::ffi::{c_char, c_int, c_void, CStr, CString};
-use std::path::{Path, PathBuf};
+use std::path::Path;
 use std::process::Command;
-use std::sync::atomic::{AtomicUsize, Ordering};
-use std::{env, fs, process};
 
 type Cell = unsafe extern "C" fn(
     side: u32,
@@ -50,27 +49,6 @@ impl Library {
         // SAFETY: a slice of Rust is aligned and of its length, and nothing overlaps the figure.
         let number = unsafe { (self.cell)(side, level, cx, cy, table.as_ptr(), table.len(), &mut figure) };
         (number, figure)
-    }
-}
-
-/// A new folder, which is removed at the end: what is mapped from it stays.
-struct Folder(PathBuf);
-
-impl Folder {
-    fn new() -> Result<Folder, String> {
-        /// Tests open several libraries at once.
-        static MADE: AtomicUsize = AtomicUsize::new(0);
-        let number = MADE.fetch_add(1, Ordering::Relaxed);
-        let folder = env::temp_dir().join(format!("mattuliyan-library-{}-{number}", process::id()));
-        fs::create_dir(&folder).map_err(|error| format!("{}: {error}", folder.display()))?;
-        Ok(Folder(folder))
-    }
-}
-
-impl Drop for Folder {
-    fn drop(&mut self) {
-        // Left over in the temporary folder it would do no harm.
-        let _ = fs::remove_dir_all(&self.0);
     }
 }
 
@@ -122,7 +100,7 @@ pub const ANOTHER: u32 = 77;
 pub fn with_another<T>(run: impl FnOnce(&Path) -> T) -> T {
     let folder = Folder::new().unwrap();
     let (source, object) = (folder.0.join("another.c"), folder.0.join("another.o"));
-    fs::write(&source, format!("unsigned mattuliyan_cell(void) {{ return {ANOTHER}; }}\n")).unwrap();
+    std::fs::write(&source, format!("unsigned mattuliyan_cell(void) {{ return {ANOTHER}; }}\n")).unwrap();
     let made = Command::new("cc").args(["-fPIC", "-c", "-o"]).args([&object, &source]).status();
     assert!(made.unwrap().success());
     run(&object)
@@ -131,6 +109,7 @@ pub fn with_another<T>(run: impl FnOnce(&Path) -> T) -> T {
 #[cfg(test)]
 mod tests {
     use super::*;
+    use std::fs;
 
     #[test]
     fn an_opened_library_answers_as_the_linked_one() {

@@ -62,18 +62,17 @@ fn processor(cpuinfo: &str) -> (String, usize) {
 #[cfg(test)]
 mod tests {
     use super::*;
+    use crate::folder::Folder;
 
     #[test]
     fn a_library_has_the_commit_of_its_checkout() {
         assert_eq!(commit(Path::new("/no-such-folder/libtile_c.a")), "an unknown commit");
-        let folder = std::env::temp_dir().join(format!("mattuliyan-checkout-{}", std::process::id()));
-        fs::create_dir(&folder).unwrap();
-        let git = |words: &[&str]| Command::new("git").arg("-C").arg(&folder).args(words).status();
+        let Folder(folder) = &Folder::new().unwrap();
+        let git = |words: &[&str]| Command::new("git").arg("-C").arg(folder).args(words).status();
         let made = git(&["init", "--quiet"]).and_then(|_| {
             git(&["-c", "user.name=a", "-c", "user.email=a@b", "commit", "--quiet", "--allow-empty", "--message=a"])
         });
         let named = commit(&folder.join("libtile_c.a"));
-        fs::remove_dir_all(&folder).unwrap();
         match made {
             Ok(status) => assert!(status.success() && named.starts_with("commit "), "{named}"),
             Err(_) => println!("git is not installed; a commit is not looked for"),

@@ -3,6 +3,7 @@
 mod cases;
 mod cells;
 mod counting;
+mod folder;
 mod inputs;
 mod library;
 mod machine;

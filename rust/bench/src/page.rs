@@ -48,9 +48,7 @@ impl MeasuredCells {
         let found = self.counts.as_ref().ok().and_then(|counts| counts.iter().find(|(each, _)| *each == calls));
         found.map(|(_, count)| thousands(*count)).unwrap_or_default()
     }
-}
 
-impl MeasuredCells {
     fn read(&self, damage: Damage, number: impl Fn(&Reads) -> usize) -> String {
         let found = self.reads.as_ref().ok().and_then(|reads| reads.iter().find(|(each, _)| *each == damage));
         found.map(|(_, reads)| thousands(number(reads) as i64)).unwrap_or_default()
@@ -188,7 +186,8 @@ fn one_cell(measured: &MeasuredCells) -> String {
         "Quartiles",
         "Before, instructions",
     ];
-    let columns = if before.is_some() { &COLUMNS[..] } else { &COLUMNS[..6] };
+    // the last three are of the library before
+    let columns = &COLUMNS[..if before.is_some() { COLUMNS.len() } else { COLUMNS.len() - 3 }];
     line(&mut text, &format!("\n| The table | {} |", columns.join(" | ")));
     line(&mut text, &format!("|---|{}", "--:|".repeat(columns.len())));
     for damage in DAMAGES {

@@ -11,6 +11,9 @@ use std::{env, fs};
 /// The argument, not for users, by which the program makes one call and says where its table lies.
 pub const READ: &str = "--read";
 
+/// The bytes of an entry.
+const ENTRY: u64 = size_of::<i64>() as u64;
+
 /// What a call loaded from its table.
 #[derive(Clone, Copy, PartialEq, Debug, Default)]
 pub struct Reads {
@@ -25,7 +28,7 @@ pub fn run_read(arguments: &[String]) -> Result<(), String> {
     let damage = *damage.ok_or("no such damage")?;
     let cells = Cells::new(None)?;
     let table = cells.table(damage);
-    // so much at once is memory that nothing has used yet, and read before
+    // 8 MiB at once come from the system, and nothing has read them yet; a smaller piece may have been used before
     const FRESH: usize = 1 << 20;
     let mut fresh = vec![0; FRESH];
     let copy = &mut fresh[..table.len()];
@@ -65,7 +68,7 @@ fn counted(trace: impl BufRead, table: Range<u64>) -> Result<Reads, String> {
         let past = address + size;
         if address < table.end && past > table.start {
             reads.loads += 1;
-            reads.reach = reads.reach.max((past - table.start).div_ceil(8) as usize);
+            reads.reach = reads.reach.max((past - table.start).div_ceil(ENTRY) as usize);
         }
     }
     Ok(reads)
