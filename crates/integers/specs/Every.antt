@@ -1,4 +1,4 @@
--- A test of every element of a list, one element after the other: what is left to be tested at i.
+-- A test of every element of a list: one element after the other, what is left to be tested at i; and of lists made of others.
 --
 -- Main results
 --   every-fails                the element at i fails: the test does not hold of every element
@@ -6,10 +6,12 @@
 --   every-end                  there is none
 --   every-pair                 the same of two elements at once
 --   every-entry, every-part    where the test holds of every element, it holds of one, and of every element of a part
-use mathlib.Core.Path.{_≡_, refl, sym, _∙_, ap}
-use mathlib.Core.Logic.{_↔_}
-use mathlib.Core.Bool.{Bool, true, false, _&&_}
-use mathlib.Core.List.{List}
+--   every-append, every-both   a test of two lists, one after the other; two tests of one list
+--   every-perm                 the order of the list does not matter
+use mathlib.Core.Path.{_≡_, refl, sym, _∙_, ap, ap₂}
+use mathlib.Core.Logic.{_↔_, ∥∥₁-elim}
+use mathlib.Core.Bool.{Bool, true, false, _&&_, Bool-set}
+use mathlib.Core.List.{List, [], _∷_, _++_, Perm, List·Permᴰ, List·Permᴰ·nil, List·Permᴰ·cons, List·Permᴰ·swap, List·Permᴰ·trans}
 use Prim.Native.Nat.{ℕ, suc, _+_, _<_, _≤_}
 use native.Mathlib.Numerals.{add-one}
 use native.Mathlib.Omega.{arith}
@@ -61,3 +63,35 @@ module _ {A : Type 0} (test : A → Bool) where
 
   pub every-part : (i n : ℕ) (l : List A) → every test l ≡ true → every test (take n (drop i l)) ≡ true
   every-part i n l e = each-passes (take n (drop i l)) .1 (all-take Passes n (drop i l) (all-drop Passes i l (each-passes l .0 e)))
+
+-- ---- lists one after the other, two tests, another order
+exchanged : (a b c d : Bool) → ((a && b) && (c && d)) ≡ ((a && c) && (b && d))
+exchanged true true c d = refl
+exchanged true false true d = refl
+exchanged true false false d = refl
+exchanged false b c d = refl
+
+module _ {A : Type 0} (test : A → Bool) where
+  pub every-append : (k l : List A) → every test (k ++ l) ≡ (every test k && every test l)
+  every-append [] l = refl
+  every-append (a ∷ k) l = ap (λ b. test a && b) (every-append k l) ∙ same-answer (test a) (every test k) (every test l)
+
+  pub every-both : (other : A → Bool) (l : List A) → every (λ a. test a && other a) l ≡ (every test l && every other l)
+  every-both other [] = refl
+  every-both other (a ∷ l) = ap (λ b. test a && other a && b) (every-both other l) ∙ exchanged (test a) (other a) (every test l) (every other l)
+
+  every-permᴰ : {k l : List A} → List·Permᴰ k l → every test k ≡ every test l
+  every-permᴰ List·Permᴰ·nil = refl
+  every-permᴰ (List·Permᴰ·cons e d) = ap₂ _&&_ (ap test e) (every-permᴰ d)
+  every-permᴰ (List·Permᴰ·swap {a} {b} {a′} {b′} {l} p q) =
+      swapped (test a) (test b) (every test l) ∙ ap₂ (λ x y. x && (y && every test l)) (ap test q) (ap test p)
+    where
+      swapped : (a b c : Bool) → (a && (b && c)) ≡ (b && (a && c))
+      swapped true true c = refl
+      swapped true false c = refl
+      swapped false true c = refl
+      swapped false false c = refl
+  every-permᴰ (List·Permᴰ·trans d d′) = every-permᴰ d ∙ every-permᴰ d′
+
+  pub every-perm : {k l : List A} → Perm k l → every test k ≡ every test l
+  every-perm {k} {l} p = ∥∥₁-elim p (Bool-set (every test k) (every test l)) (λ d. every-permᴰ d)

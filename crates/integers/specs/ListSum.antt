@@ -7,14 +7,15 @@
 --   total-within, total-bounded       terms bounded each by its own bound are bounded by the bounds' sum; each by b, by as many times b
 --   total-perm                        the order of the list does not matter
 --   total-map                         the sum over the images of a list's elements
---   tally, tally-total, tally-const   a count over a list: a sum of natural numbers
-use mathlib.Core.Path.{_≡_, refl, _∙_, ap, ap₂}
+--   tally, tally-total, tally-const,
+--   tally-perm                        a count over a list: a sum of natural numbers
+use mathlib.Core.Path.{_≡_, refl, sym, _∙_, ap, ap₂}
 use mathlib.Core.List.{List, [], _∷_, _++_, map, Perm, List·Permᴰ, List·Permᴰ·nil, List·Permᴰ·cons, List·Permᴰ·swap, List·Permᴰ·trans}
 use mathlib.Core.Logic.{∥∥₁-elim}
 use Prim.Native.Nat.{ℕ, zero, suc, _+_, _*_, _<_}
 use native.Mathlib.Omega.{arith}
 use lib.ListN.{length, getD, take, drop}
-use lib.IntN.{ℤ, pos, negℤ, _+ℤ_, _*ℤ_, ℤ-set}
+use lib.IntN.{ℤ, pos, natAbs, negℤ, _+ℤ_, _*ℤ_, ℤ-set}
 use lib.Signed.{≤ℤ-refl}
 use Rattle.integers.specs.Ring.{read, ring, comb, _⊕_}
 use Rattle.integers.specs.Within.{Within, within-is, within-add, within-self}
@@ -141,3 +142,6 @@ pub tally-const : {A : Type 0} (c : ℕ) (l : List A) → tally (λ a. c) l ≡ 
 unfolding tally
 tally-const c [] = omega arith
 tally-const c (a ∷ l) = omega (arith, tally-const c l)
+
+pub tally-perm : {A : Type 0} (f : A → ℕ) {k l : List A} → Perm k l → tally f k ≡ tally f l
+tally-perm f {k} {l} p = ap natAbs (tally-total f k ∙ total-perm (λ a. pos (f a)) p ∙ sym (tally-total f l))

@@ -9,10 +9,9 @@ use mathlib.Core.Path.{_≡_, _∙_, ap, subst⁻¹}
 use mathlib.Core.List.{List}
 use Prim.Native.Nat.{ℕ, _+_, _*_, _^_, _≤_}
 use native.Mathlib.Omega.{arith}
-use native.Mathlib.Nat.{mul-le-mul-right}
 use lib.ListN.{length, replicate, length-replicate}
 use lib.IntN.{ℤ, pos, _*ℤ_}
-use Rattle.integers.specs.Units.{greatestDepth, mostEdges, detailLimit}
+use Rattle.integers.specs.Units.{greatestDepth}
 use Rattle.integers.specs.ListSum.{All}
 use Rattle.haar.specs.Cells.{children}
 use Rattle.haar.specs.Plane.{dimensions}
@@ -21,18 +20,14 @@ use Rattle.accuracy.specs.Tile.{OnTile}
 use Rattle.accuracy.specs.OutlineTable.{outlineTable}
 use Rattle.accuracy.specs.Laws.Coordinates.{contoursOf-on-tile}
 use Rattle.rasterize.specs.Added.{added, entryOf}
-use Rattle.rasterize.specs.Ready.{sumLimit, visits, Fits}
+use Rattle.rasterize.specs.Ready.{visits, Fits}
 use Rattle.rasterize.specs.Laws.Adding.{added-zeros}
 use Rattle.rasterize.specs.Laws.Spare.{spare-zeros}
 use Rattle.tile.specs.Questions.{depthOf}
 use Rattle.tile.specs.Outcomes.{edgesOf, tableOf}
 use Rattle.tile.specs.Laws.Sides.{side-depth, side-cells}
 use Rattle.tile.specs.Laws.Accepted.{Accepted}
-
--- room for the most edges, beside what the recursion asks for
-room : (n : ℕ) → n ≤ mostEdges → (n + visits greatestDepth) * detailLimit ≤ sumLimit
-unfolding visits
-room n h = let few : n + visits greatestDepth ≤ mostEdges + visits greatestDepth = omega arith in omega (arith, mul-le-mul-right detailLimit few)
+use Rattle.tile.proofs.Room.{room}
 
 module _ {side : ℕ} {points : List ℤ} {counts : List ℕ} {table cleared : List ℤ} (a : Accepted side points counts table)
     (zeros : cleared ≡ replicate (length table) (pos 0)) {depth : ℕ} (d : depth ≡ depthOf side) where
@@ -45,7 +40,7 @@ module _ {side : ℕ} {points : List ℤ} {counts : List ℕ} {table cleared : L
       (subst⁻¹ (λ l. Fits l (depthOf side) (edgeCount counts)) zeros (record {
         shallow = side-depth side (a .is-side);
         exact = length-replicate (length table) (pos 0) ∙ cells;
-        spare = spare-zeros (length table) (edgeCount counts + visits greatestDepth) (room (edgeCount counts) (a .few-edges));
+        spare = spare-zeros (length table) (edgeCount counts + visits greatestDepth) (omega (arith, room (edgeCount counts) (omega (arith, a .few-edges))));
       }))
 
   pub cleared-enough : 2 * edgeCount counts ≤ length points

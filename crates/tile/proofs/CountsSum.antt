@@ -3,7 +3,8 @@
 -- Main results
 --   count-next, count-end            what is left of the sum at i
 --   capped-within, capped-over       `cappedEdges` is the sum where that is at most the most edges, and else one more than the most
---   edges-within, edges-over         so it says which of the two the sum is
+--   capped-le, capped-most           so it is no more than the sum, and no more than one past the most,
+--   edges-within                     and where it is at most the most edges the sum is too
 use mathlib.Core.Path.{_≡_, sym, _∙_, ap}
 use mathlib.Core.Bool.{cond}
 use mathlib.Core.List.{List}
@@ -35,8 +36,18 @@ module _ (counts : List ℕ) where
   pub capped-over : mostEdges < edgeCount counts → cappedEdges counts ≡ suc mostEdges
   capped-over h = ap (λ b. cond b (edgeCount counts) (suc mostEdges)) (lt-leb (edgeCount counts) mostEdges h)
 
+  capped-both : (cappedEdges counts ≤ edgeCount counts) × (cappedEdges counts ≤ suc mostEdges)
+  capped-both =
+      elim (decLt mostEdges (edgeCount counts)) [
+        | yes p ↦ (let e = capped-over p in (omega arith, omega arith))
+        | no p ↦ (let e = capped-within (omega arith) in (omega arith, omega arith))
+      ]
+
+  pub capped-le : cappedEdges counts ≤ edgeCount counts
+  capped-le = capped-both .0
+
+  pub capped-most : cappedEdges counts ≤ suc mostEdges
+  capped-most = capped-both .1
+
   pub edges-within : cappedEdges counts ≤ mostEdges → edgeCount counts ≤ mostEdges
   edges-within h = elim (decLt mostEdges (edgeCount counts)) [ yes p ↦ (let e = capped-over p in absurd (omega arith)) | no p ↦ omega arith ]
-
-  pub edges-over : mostEdges < cappedEdges counts → mostEdges < edgeCount counts
-  edges-over h = elim (decLt mostEdges (edgeCount counts)) [ yes p ↦ p | no p ↦ (let e = capped-within (omega arith) in absurd (omega arith)) ]

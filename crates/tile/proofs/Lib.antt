@@ -7,5 +7,8 @@ pub mod LevelFirst
 pub mod CountsSum
 -- the product of a side with itself
 pub mod Square
--- from a cleared table to an outline's
+-- room for edges; from a cleared table to an outline's
+pub mod Room
 pub mod Building
+-- a contour added, and taken out again
+pub mod Correcting

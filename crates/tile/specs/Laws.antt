@@ -16,3 +16,11 @@ pub mod DrawnTable
 pub mod DrawnArea
 -- a given outline's table and pictures, by computing them
 pub mod Computed
+-- the outline of contours; contours whose values add up to a table
+pub mod Written
+pub mod AddingUp
+-- the tile that holds contours, by sums
+pub mod Held
+-- the contour of a call; what the call makes of a tile that holds contours
+pub mod AskedContour
+pub mod Kept

@@ -21,6 +21,10 @@ pub mod Faithful
 pub mod Theorem
 -- ---- 02's placements: what is built is the outline as placed, so demands 2 and 3 are of that one
 pub mod PlacedOutline
+-- ---- 02's corrections: what putting in and taking out answer and leave; the tile that holds contours
+pub mod Corrections
+pub mod Holding
+pub mod Series
 -- ---- 01's letters
 pub mod Letters
 -- ---- what inner functions answer

@@ -5,6 +5,7 @@
 --   ifDone number a b                        a where the number is 0, and else b
 --   edgesOf points counts                    the edges of an outline
 --   tableOf side points counts               the table of an outline: its entries, in order
+--   edgesTable side es                       the same of a list of edges, whatever kind of outline they are of
 --   buildRefusal, buildResult, buildTable    building: the number; the number and the edge count; the table afterwards
 --   placedRefusal, placedResult, placedTable building with a placement: the same, and the table is that of the outline as placed
 --   drawRefusal                              pictures of figures or of greys: the number
@@ -39,6 +40,9 @@ edgesOf points counts = outlineEdges (contoursOf counts points)
 -- signed area for the root; `entries` puts them in the table's order (`TableEntries`).
 abbrev pub tableOf : ℕ → List ℤ → List ℕ → List ℤ
 tableOf side points counts = entries dimensions (depthOf side) (outlineTable (depthOf side) (edgesOf points counts))
+
+abbrev pub edgesTable : ℕ → List Edge → List ℤ
+edgesTable side es = entries dimensions (depthOf side) (outlineTable (depthOf side) es)
 
 abbrev pub buildRefusal : ℕ → List ℤ → List ℕ → List ℤ → ℕ
 buildRefusal side points counts table = firstNo (buildingQuestions side points counts table)

@@ -4,23 +4,26 @@
 --
 -- Main results
 --   placed-number                where the placement is accepted the questions are building's, of the points as placed
+--   placed-none-in               they are an outline's questions where no edge is in already
 --   placed-as-built              so the answer and the table are those of building the outline as placed
 --   placed-none-as-built         with no placement they are building's, for every input
 --   placed-faithful              and what is left is drawn as `FaithfulPlaced` says
 use mathlib.Core.Path.{_≡_, refl, sym, _∙_, ap, ap₂}
 use mathlib.Core.Bool.{Bool}
 use mathlib.Core.List.{List, [], _∷_}
-use Prim.Native.Nat.{ℕ, _*_}
-use lib.Dec.{eqb}
+use Prim.Native.Nat.{ℕ, _+_, _*_}
+use native.Mathlib.Omega.{arith}
+use lib.Dec.{eqb, leb}
 use lib.ListN.{length}
 use lib.IntN.{ℤ}
+use Rattle.integers.specs.Units.{mostEdges}
 use Rattle.placement.specs.declared.Placement.{Placement}
 use Rattle.placement.specs.declared.Placement.the-variants.{None}
 use Rattle.placement.specs.Placed.{placed}
 use Rattle.placement.specs.Laws.PlacedPoints.{placed-none, placed-length}
 use Rattle.accuracy.specs.Outline.{edgeCount}
 use Rattle.tile.specs.declared.Built.{Built}
-use Rattle.tile.specs.Questions.{Yes, firstNo, question1, question2, question4, question5, question6, question12}
+use Rattle.tile.specs.Questions.{Yes, firstNo, question1, question2, question3, question4, question5, question6, question12, outlineQuestions}
 use Rattle.tile.specs.Outcomes.{ifDone, tableOf, buildRefusal, buildResult, buildTable, placedRefusal, placedResult, placedTable}
 use Rattle.tile.specs.Faithful.{FaithfulPlaced}
 use Rattle.tile.specs.Theorem.{outline-faithful}
@@ -41,6 +44,15 @@ module _ (side : ℕ) (points : List ℤ) (counts : List ℕ) (table : List ℤ)
       (question1 side ∷ question2 side table ∷ question4 counts ∷ question5 counts ∷ record { number = 3; answer = enough }
       ∷ record { number = 12; answer = movable } ∷ question6 side (placed placement points) ∷ []) in
       ap₂ number same asked
+
+  pub placed-none-in : (placement : Placement) → firstNo (outlineQuestions side points counts placement 0 table) ≡ placedRefusal side points counts placement table
+  placed-none-in placement =
+      let same : 0 + edgeCount counts ≡ edgeCount counts = omega arith in
+      let number : ℕ → ℕ = λ edges.
+      firstNo
+      (question1 side ∷ question2 side table ∷ question4 counts ∷ record { number = 5; answer = leb edges mostEdges } ∷ question3 points counts
+      ∷ question12 placement points ∷ question6 side (placed placement points) ∷ []) in
+      ap number same
 
   pub placed-as-built : (placement : Placement) → Yes (question12 placement points)
       → (placedResult side points counts placement table ≡ buildResult side (placed placement points) counts table)

@@ -26,7 +26,7 @@ use Rattle.accuracy.specs.OutlineTable.{outlineTable}
 use Rattle.accuracy.specs.Accurate.{twiceMissLimit}
 use Rattle.accuracy.specs.Laws.Denominator.{denominator-pos}
 use Rattle.tile.specs.Questions.{depthOf}
-use Rattle.tile.specs.Outcomes.{ifDone, edgesOf, tableOf, buildRefusal, buildTable, cellResult}
+use Rattle.tile.specs.Outcomes.{ifDone, edgesOf, tableOf, edgesTable, buildRefusal, buildTable, cellResult}
 use Rattle.tile.specs.DrawnFigures.{figures-drawn, greys-drawn, figure-in-picture, grey-in-picture, figure-alone}
 use Rattle.tile.specs.Faithful.{figureNum, CellDrawn, Drawn, FaithfulOutline, Faithful}
 use Rattle.tile.specs.Refusals.{question2-means, question7-means}
@@ -34,7 +34,7 @@ use Rattle.tile.specs.Laws.IfDone.{if-done}
 use Rattle.tile.specs.Laws.Sides.{side-power}
 use Rattle.tile.specs.Laws.Answers.{in-range-entries}
 use Rattle.tile.specs.Laws.Accepted.{Accepted, accepted, accepted-count, AcceptedEdges, accepted-edges}
-use Rattle.tile.specs.Laws.BuiltTable.{edgesTable, table-length, table-same, table-in-range}
+use Rattle.tile.specs.Laws.BuiltTable.{table-length, table-same, table-in-range}
 use Rattle.tile.specs.Laws.DrawnTable.{LevelYes, drawn-accepted, cell-accepted}
 use Rattle.tile.specs.Laws.DrawnArea.{area-within, miss-limit-cells}
 

@@ -1,4 +1,4 @@
-// A letter's outline into a table of Haar coefficients, and pictures of it at every halving: the five public calls.
+// A letter's outline into a table of Haar coefficients, contours put in and taken out, and pictures at every halving: the seven public calls.
 //
 // None asks anything of its caller. Each asks its questions of what it is given, in the papers' order; the first "no" decides, and its number is the
 // answer. Where all are answered yes the answer is 0 and the work is done. A refused call changes nothing.
@@ -10,12 +10,18 @@ ghost use lib.Dec.{leb};
 ghost use mathlib.Core.Bool.{_&&_};
 ghost use Rattle.integers.specs.Units.{greatestSide, greatestDepth, fewestPoints, mostPoints};
 ghost use Rattle.tile.specs.Questions.{depthOf, firstNo, question1, question2, question4, question7, question8, question9, question10};
-ghost use Rattle.tile.specs.Outcomes.{buildResult, buildTable, placedRefusal, placedResult, placedTable, drawRefusal, figuresPicture, greysPicture, cellRefusal, cellResult};
+ghost use Rattle.tile.specs.Questions.{outlineQuestions};
+ghost use Rattle.tile.specs.Outcomes.{buildResult, buildTable, placedResult, placedTable, drawRefusal, figuresPicture, greysPicture, cellRefusal, cellResult};
 ghost use Rattle.tile.specs.Faithful.{Faithful, FaithfulPlaced};
+ghost use Rattle.tile.specs.Corrections.{tileOf, putting, taking, correctRefusal, corrected};
+ghost use Rattle.tile.specs.Holding.{HoldsOneMore, HoldsOneLess};
 ghost use Rattle.tile.specs.Inner.{cappedEdges, levelQuestions};
 ghost use Rattle.tile.specs.EntrySearch.{entriesLookedAt};
+use corrections::Change;
 use integers::Searched;
 use placement::Placement;
+
+mod corrections;
 
 // What building answers: the number of its refusal, or 0, and the edge count.
 pub struct Built {
@@ -62,7 +68,7 @@ const NO_POINTS: u32 = 3;
 // Question 4: is every count one of a contour?
 const NO_COUNT: u32 = 4;
 
-// Question 5: is the counts' sum at most the most edges?
+// Question 5: is the counts' sum, with the edges that are in already, at most the most edges?
 const NO_SUM: u32 = 5;
 
 // Question 6: is every coordinate, as placed, on the tile?
@@ -82,6 +88,12 @@ const NO_CELL: u32 = 10;
 
 // Question 12: are the placement's floats, and the points that it moves, as they must be?
 const NO_PLACEMENT: u32 = 12;
+
+// Question 13: does the record count as many edges as are taken out?
+const NO_RECORD: u32 = 13;
+
+// Building begins with an empty table.
+const NONE_IN: u32 = 0;
 
 // ---- the questions
 
@@ -178,15 +190,16 @@ fn is_cell(level: u32, cx: u32, cy: u32) -> bool
     (cx as usize) < n && (cy as usize) < n
 }
 
-// Building's questions, with a placement: the first "no", or 0.
-fn build_refusal(
+// The questions about an outline, beside `already` edges that are in the table: the first "no", or 0.
+fn outline_refusal(
     side: u32,
     points: &[i64],
     counts: &[u32],
     placement: Placement,
+    already: u32,
     table: &[i64],
 ) -> u32
-    ensures { λ r. ⌜ r ≡ placedRefusal side (now (points .entry)) (now (counts .entry)) placement (now (table .entry)) ⌝ }
+    ensures { λ r. ⌜ r ≡ firstNo (outlineQuestions side (now (points .entry)) (now (counts .entry)) placement already (now (table .entry))) ⌝ }
 {
     if !is_side(side) {
         return NO_SIDE;
@@ -198,7 +211,7 @@ fn build_refusal(
         return NO_COUNT;
     }
     let edges = edges_of(counts);
-    if edges > MOST_EDGES {
+    if already as usize + edges > MOST_EDGES {
         return NO_SUM;
     }
     if points.len() != 2 * edges {
@@ -263,7 +276,7 @@ fn cell_refusal(side: u32, level: u32, cx: u32, cy: u32, table: &[i64]) -> u32
     DONE
 }
 
-// ---- the five calls
+// ---- the seven calls
 
 // Sets every entry to 0.
 fn clear(table: &mut [i64])
@@ -299,7 +312,7 @@ pub fn build_placed(
     ensures { λ _. ⌜ FaithfulPlaced side (now (points .entry)) (now (counts .entry)) placement (now (table .entry)) (now (table .exit)) ⌝ }
     ensures { λ _. ⌜ (now (points .exit) ≡ now (points .entry)) × (now (counts .exit) ≡ now (counts .entry)) ⌝ }
 {
-    let number = build_refusal(side, points, counts, placement, table);
+    let number = outline_refusal(side, points, counts, placement, NONE_IN, table);
     if number != DONE {
         return Built { number, edges: 0 };
     }
@@ -309,6 +322,44 @@ pub fn build_placed(
         number: DONE,
         edges: edges_of(counts) as u32,
     }
+}
+
+// Puts a contour into a tile, which is a table with the record of its edge count: `points` has x and y of each of its `count` points in turn, and the
+// contour is these as placed. The answer is 0, and what the contour adds to each entry is in the table and its count in the record. Or it is the number
+// of the first question that is answered no, and table and record are as they were.
+pub fn put(
+    side: u32,
+    points: &[i64],
+    count: u32,
+    placement: Placement,
+    edges: &mut u32,
+    table: &mut [i64],
+) -> u32
+    ensures { λ r. ⌜ r ≡ correctRefusal side (putting (now (points .entry)) count placement) (tileOf (now (table .entry)) (now (edges .entry))) ⌝ }
+    ensures { λ _. ⌜ now (edges .exit) ≡ corrected side (putting (now (points .entry)) count placement) (tileOf (now (table .entry)) (now (edges .entry))) .edges ⌝ }
+    ensures { λ _. ⌜ now (table .exit) ≡ corrected side (putting (now (points .entry)) count placement) (tileOf (now (table .entry)) (now (edges .entry))) .table ⌝ }
+    ensures { λ _. ⌜ HoldsOneMore side (putting (now (points .entry)) count placement) (tileOf (now (table .entry)) (now (edges .entry))) (tileOf (now (table .exit)) (now (edges .exit))) ⌝ }
+    ensures { λ _. ⌜ now (points .exit) ≡ now (points .entry) ⌝ }
+{
+    corrections::correct(side, Change::Put, points, count, placement, edges, table)
+}
+
+// Takes a contour out of a tile again: as `put`, with its values taken from the table and its count from the record.
+pub fn take(
+    side: u32,
+    points: &[i64],
+    count: u32,
+    placement: Placement,
+    edges: &mut u32,
+    table: &mut [i64],
+) -> u32
+    ensures { λ r. ⌜ r ≡ correctRefusal side (taking (now (points .entry)) count placement) (tileOf (now (table .entry)) (now (edges .entry))) ⌝ }
+    ensures { λ _. ⌜ now (edges .exit) ≡ corrected side (taking (now (points .entry)) count placement) (tileOf (now (table .entry)) (now (edges .entry))) .edges ⌝ }
+    ensures { λ _. ⌜ now (table .exit) ≡ corrected side (taking (now (points .entry)) count placement) (tileOf (now (table .entry)) (now (edges .entry))) .table ⌝ }
+    ensures { λ _. ⌜ HoldsOneLess side (taking (now (points .entry)) count placement) (tileOf (now (table .entry)) (now (edges .entry))) (tileOf (now (table .exit)) (now (edges .exit))) ⌝ }
+    ensures { λ _. ⌜ now (points .exit) ≡ now (points .entry) ⌝ }
+{
+    corrections::correct(side, Change::Take, points, count, placement, edges, table)
 }
 
 // Draws the figures of a level. The answer is 0, and the picture has them row by row, whatever it held before. Or it is the number of the first

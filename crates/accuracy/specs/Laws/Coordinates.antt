@@ -5,7 +5,8 @@
 --   taken-points                 n of them in the first 2n coordinates
 --   pointsOf-entry               point k has coordinates 2k and 2k + 1
 --   contoursOf-count             "The edges are as many as the points": the counts' sum
---   OnSide, contoursOf-on-tile   coordinates from 0 to the tile's width are those of points on the tile
+--   OnSide, points-on,
+--   contoursOf-on-tile           coordinates from 0 to the tile's width are those of points on the tile
 use mathlib.Core.Path.{_≡_, refl, _∙_, ap, ap₂}
 use mathlib.Core.List.{List, [], _∷_}
 use Prim.Native.Nat.{ℕ, zero, suc, _+_, _*_, _/_, _<_, _≤_}
@@ -53,7 +54,7 @@ pointsOf-entry o (x ∷ y ∷ rest) (suc k) h =
 abbrev pub OnSide : ℕ → ℤ → Type 0
 OnSide depth z = (pos 0 ≤ℤ z) × (z ≤ℤ pos (cellWidth depth 0))
 
-points-on : (depth : ℕ) (l : List ℤ) → All (OnSide depth) l → All (OnTile depth) (pointsOf l)
+pub points-on : (depth : ℕ) (l : List ℤ) → All (OnSide depth) l → All (OnTile depth) (pointsOf l)
 unfolding pointsOf
 points-on depth [] p = tt
 points-on depth (x ∷ []) p = tt

@@ -5,6 +5,7 @@
 --   added-entry                  each entry gets what its index is given
 --   added-unique                 and no other list of this length has those entries
 --   added-same                   additions that agree at every index of the table are the same
+--   added-added                  two additions are one, of their sum
 --   added-signed                 two additions with one sign are one, of the sum with that sign
 --   added-nothing                where nothing is added, with whatever sign, the table stays
 --   added-zeros                  a table of coefficients, added once to an empty table, is the list of its entries
@@ -41,7 +42,7 @@ pub added-same : (t : List ℤ) (f g : ℕ → ℤ) → ((i : ℕ) → i < lengt
 added-same t f g e = added-unique t (added t f) g (added-length t f) (λ i h. added-entry t f i h ∙ ap (λ z. getD t i (pos 0) +ℤ z) (e i h))
 
 -- two additions are one, of their sum
-added-added : (t : List ℤ) (f g : ℕ → ℤ) → added (added t f) g ≡ added t (λ i. f i +ℤ g i)
+pub added-added : (t : List ℤ) (f g : ℕ → ℤ) → added (added t f) g ≡ added t (λ i. f i +ℤ g i)
 added-added t f g = added-unique t (added (added t f) g) (λ i. f i +ℤ g i) (added-length (added t f) g ∙ added-length t f) entry
   where
     both : (x y z : ℤ) → (x +ℤ y) +ℤ z ≡ x +ℤ (y +ℤ z)

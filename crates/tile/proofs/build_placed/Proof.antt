@@ -12,10 +12,11 @@ use Rattle.placement.specs.Placed.{placed}
 use Rattle.placement.specs.Laws.PlacedPoints.{placed-length}
 use Rattle.accuracy.specs.Outline.{edgeCount}
 use Rattle.tile.specs.declared.Built.{Built}
+use Rattle.tile.specs.Questions.{firstNo, outlineQuestions}
 use Rattle.tile.specs.Outcomes.{placedRefusal, placedTable}
 use Rattle.tile.specs.Refusals.{placed-refusals}
 use Rattle.tile.specs.Faithful.{FaithfulPlaced}
-use Rattle.tile.specs.PlacedOutline.{placed-faithful}
+use Rattle.tile.specs.PlacedOutline.{placed-none-in, placed-faithful}
 use Rattle.tile.specs.Laws.IfDone.{if-done, if-refused}
 use Rattle.tile.specs.Laws.Accepted.{Accepted, placed-accepted}
 use Rattle.tile.proofs.CountsSum.{capped-within}
@@ -25,6 +26,11 @@ use Rattle.tile.proofs.build_placed.Tie as tie
 
 abbrev answer : ℕ → ℕ → Built
 answer number edges = record { number = number; edges = edges }
+
+-- no edge is in already
+asked-is : (s : tie.Start) {n : ℕ} → n ≡ firstNo (outlineQuestions (s .args .side) (s .args .points .now) (s .args .counts .now) (s .args .placement) 0 (s .args .table .now))
+    → n ≡ placedRefusal (s .args .side) (s .args .points .now) (s .args .counts .now) (s .args .placement) (s .args .table .now)
+asked-is s e = e ∙ placed-none-in (s .args .side) (s .args .points .now) (s .args .counts .now) (s .args .table .now) (s .args .placement)
 
 -- whatever the table is afterwards, if it is what building is to leave it is faithful to the outline
 module _ (s : tie.Start) where
@@ -43,13 +49,13 @@ module _ (s : tie.Start) where
 returns : tie.Need-returns
 returns c =
     let s = c .before .before .before .before in
-    let e = c .before .build-refusal .ensures in
+    let e = asked-is s (c .before .outline-refusal .ensures) in
     let no : number s ≢ 0 = λ z. c .if1 .taken (e ∙ z) in
     let kept = sym (if-refused _ (s .args .table .now) no) in
     (ap₂ answer e (sym (if-refused _ 0 no)), (kept, (is-faithful s kept, (refl, refl))))
 
 is-accepted : (c : tie.Else1) → (let a = c .before .before .before .before .args in Accepted (a .side) (placed (a .placement) (a .points .now)) (a .counts .now) (a .table .now))
-is-accepted c = let a = c .before .before .before .before .args in placed-accepted (a .side) (a .points .now) (a .counts .now) (a .placement) (a .table .now) (sym (c .before .build-refusal .ensures) ∙ c .if1 .left)
+is-accepted c = let a = c .before .before .before .before .args in placed-accepted (a .side) (a .points .now) (a .counts .now) (a .placement) (a .table .now) (sym (asked-is (c .before .before .before .before) (c .before .outline-refusal .ensures)) ∙ c .if1 .left)
 
 add-outline-requires : tie.Need-add-outline-requires
 add-outline-requires c κs =
@@ -59,7 +65,7 @@ add-outline-requires c κs =
     let e = c .before .before .before .before .before in
     let s = e .before .before .before .before in
     let yes = placed-refusals (s .args .side) (s .args .points .now) (s .args .counts .now) (s .args .placement) (s .args .table .now) .accepted .0
-    (sym (e .before .build-refusal .ensures) ∙ e .if1 .left) in (
+    (sym (asked-is s (e .before .outline-refusal .ensures)) ∙ e .if1 .left) in (
       cleared-fits a zeros d,
       le-trans (cleared-enough a zeros d) (le-of-eq (placed-length (s .args .placement) (s .args .points .now))),
       cleared-on-tile a zeros d,
@@ -79,7 +85,7 @@ module _ (c : tie.After-edges-of) where
   counted = c .edges-of .ensures ∙ capped-within (start .args .counts .now) (is-accepted asked .few-edges)
 
   done : number start ≡ 0
-  done = sym (asked .before .build-refusal .ensures) ∙ asked .if1 .left
+  done = sym (asked-is start (asked .before .outline-refusal .ensures)) ∙ asked .if1 .left
 
   left-there : c .before .before .add-outline .last .0 ≡ outcome start
   left-there =

@@ -1,6 +1,7 @@
 -- What is known of an accepted outline: "An outline is accepted where every question for building is answered yes."
 --
 -- Main results
+--   on-side                          question 6's coordinates are on the tile
 --   Accepted, accepted               what the answers say of the side, the table and the outline
 --   placed-accepted                  and, with a placement, of the outline as placed
 --   accepted-count                   its edges are as many as the counts' sum
@@ -41,6 +42,10 @@ tile-width side y =
     let whole : depthOf side ≡ depthOf side - 0 = omega arith in
     ap (λ s. stepsPerPixel * s) (side-power side y) ∙ ap (λ k. stepsPerPixel * 2 ^ k) whole
 
+pub on-side : (side : ℕ) (points : List ℤ) → Yes (question1 side) → Yes (question6 side points) → All (OnSide (depthOf side)) points
+on-side side points yes1 yes6 =
+    subst (λ (w : ℕ). All (λ z. (pos 0 ≤ℤ z) × (z ≤ℤ pos w)) points) (tile-width side yes1) (question6-means side points .0 yes6)
+
 -- from the answers to the questions that every kind of outline is asked, question 6's of the points that are drawn
 accepted-by : (side : ℕ) (points : List ℤ) (counts : List ℕ) (table : List ℤ) → Yes (question1 side) → Yes (question2 side table) → Yes (question5 counts)
     → length points ≡ 2 * edgeCount counts → Yes (question6 side points) → Accepted side points counts table
@@ -49,7 +54,7 @@ accepted-by side points counts table yes1 yes2 yes5 enough yes6 = record {
   table-length = question2-means side table .0 yes2;
   few-edges = question5-means counts .0 yes5;
   points-length = enough;
-  on-tile = subst (λ (w : ℕ). All (λ z. (pos 0 ≤ℤ z) × (z ≤ℤ pos w)) points) (tile-width side yes1) (question6-means side points .0 yes6);
+  on-tile = on-side side points yes1 yes6;
 }
 
 pub accepted : (side : ℕ) (points : List ℤ) (counts : List ℕ) (table : List ℤ) → buildRefusal side points counts table ≡ 0

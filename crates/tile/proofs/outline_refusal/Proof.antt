@@ -1,7 +1,7 @@
 -- Question by question.
 use mathlib.Core.Path.{_≡_, sym, _∙_, ap, subst⁻¹}
 use mathlib.Core.List.{List}
-use Prim.Native.Nat.{ℕ, _*_, _<_, _≤_}
+use Prim.Native.Nat.{ℕ, _+_, _*_, _^_, _<_, _≤_}
 use native.Mathlib.Omega.{arith}
 use lib.IntN.{pos, _*ℤ_}
 use mir.Syntax.{w64}
@@ -14,15 +14,15 @@ use Rattle.integers.specs.Machine.{known}
 use Rattle.accuracy.specs.Outline.{edgeCount}
 use Rattle.integers.specs.Tests.{every, between}
 use Rattle.placement.specs.Placed.{placed}
-use Rattle.tile.specs.Questions.{Question, question6, placedQuestions}
+use Rattle.tile.specs.Questions.{Question, question6, outlineQuestions}
 use Rattle.tile.specs.Laws.Sides.{side-le}
 use Rattle.tile.proofs.Asking.{After, none-asked, no-at, yes-at, refused, passed}
-use Rattle.tile.proofs.CountsSum.{edges-within, edges-over, capped-within}
-use Rattle.tile.proofs.build_refusal.Statement.{statement}
-use Rattle.tile.proofs.build_refusal.Tie as tie
+use Rattle.tile.proofs.CountsSum.{edges-within, capped-le, capped-most, capped-within}
+use Rattle.tile.proofs.outline_refusal.Statement.{statement}
+use Rattle.tile.proofs.outline_refusal.Tie as tie
 
 abbrev questions : tie.Start → List Question
-questions s = placedQuestions (s .args .side) (s .args .points .now) (s .args .counts .now) (s .args .placement) (s .args .table .now)
+questions s = outlineQuestions (s .args .side) (s .args .points .now) (s .args .counts .now) (s .args .placement) (s .args .already) (s .args .table .now)
 
 -- ---- questions 1, 2 and 4
 after-1 : (c : tie.Else1) → After (questions (c .before .before .before)) 1
@@ -49,7 +49,7 @@ returns-2 c = refused (after-1 (c .before .before)) (c .before .is-table .ensure
 returns-3 : tie.Need-returns-3
 returns-3 c = refused (after-2 (c .before .before)) (c .before .are-counts .ensures) (c .if3 .taken)
 
--- ---- question 5: the sum is at most the most edges exactly where what `edges_of` found is
+-- ---- question 5: with what is in already, the sum is at most the most edges exactly where what `edges_of` found is
 module _ (c : tie.After-edges-of) where
   abbrev start : tie.Start
   start = c .before .before .before .before .before .before .before .before
@@ -57,20 +57,33 @@ module _ (c : tie.After-edges-of) where
   abbrev edges : ℕ
   edges = edgeCount (start .args .counts .now)
 
-  few : c .edges-of .result ≤ mostEdges → edges ≤ mostEdges
-  few h = edges-within _ (omega (arith, c .edges-of .ensures))
+  abbrev already : ℕ
+  already = start .args .already
 
-  many : mostEdges < c .edges-of .result → mostEdges < edges
-  many h = edges-over _ (omega (arith, c .edges-of .ensures))
+  -- it fits: at most one more than the most edges, beside a number of 32 bits
+  add-fits : already + c .edges-of .result < 2 ^ 64
+  add-fits = omega (arith, start .fits .already .fits, c .edges-of .ensures, capped-most (start .args .counts .now))
+
+  within : already + c .edges-of .result ≤ mostEdges → edges ≤ mostEdges
+  within h = edges-within _ (omega (arith, c .edges-of .ensures))
+
+  found : already + c .edges-of .result ≤ mostEdges → c .edges-of .result ≡ edges
+  found h = c .edges-of .ensures ∙ capped-within _ (within h)
+
+  few : already + c .edges-of .result ≤ mostEdges → already + edges ≤ mostEdges
+  few h = omega (arith, found h)
+
+  many : mostEdges < already + c .edges-of .result → mostEdges < already + edges
+  many h = omega (arith, c .edges-of .ensures, capped-le (start .args .counts .now))
 
 after-4 : (c : tie.Else4) → After (questions (start (c .before))) 4
-after-4 c = yes-at (after-3 (c .before .before)) (le-leb (edges (c .before)) mostEdges (few (c .before) (c .if4 .left)))
+after-4 c = yes-at (after-3 (c .before .before)) (le-leb (already (c .before) + edges (c .before)) mostEdges (few (c .before) (c .if4 .left)))
 
 edges-are : (c : tie.Else4) → c .before .edges-of .result ≡ edges (c .before)
-edges-are c = c .before .edges-of .ensures ∙ capped-within _ (few (c .before) (c .if4 .left))
+edges-are c = found (c .before) (c .if4 .left)
 
 returns-4 : tie.Need-returns-4
-returns-4 c = no-at (after-3 (c .before .before)) (lt-leb (edges (c .before)) mostEdges (many (c .before) (c .if4 .taken)))
+returns-4 c = no-at (after-3 (c .before .before)) (lt-leb (already (c .before) + edges (c .before)) mostEdges (many (c .before) (c .if4 .taken)))
 
 -- ---- question 3
 after-5 : (c : tie.Else5) → After (questions (start (c .before .before))) 5
@@ -115,8 +128,8 @@ returns-7 c = refused (after-6 (c .before .before)) (asked-6 (c .before)) (c .if
 returns-8 : tie.Need-returns-8
 returns-8 c = sym (passed (after-6 (c .before .before)) (asked-6 (c .before)) (c .if7 .left) .same)
 
-pub build-refusal-spec : {M : Type 1} → statement M
-build-refusal-spec =
+pub outline-refusal-spec : {M : Type 1} → statement M
+outline-refusal-spec =
     tie.close
     (tie.spec
     (λ c κs. search needs)
@@ -126,6 +139,7 @@ build-refusal-spec =
     (λ c κs. search needs)
     returns-3
     (λ c κs. search needs)
+    (λ c. record { fits = add-fits c })
     returns-4
     (λ c. search needs)
     returns-5

@@ -1,0 +1,105 @@
+-- Putting a contour in, taking it out (02, P3): what each call answers and leaves, for every input.
+--
+-- Definitions
+--   Tile                         a table, and the record of its edge count
+--   Change, signOf               putting in or taking out (`Change` is the code's); what a contour's values are multiplied by
+--   Call                         a call
+--   Contour, contourOf k         a contour is known by its points; that of a call
+--   part side c i                what a contour adds to entry i
+--   wouldLeave side k t          the table that a call would leave
+--   alreadyIn, takenOut          what questions 5 and 13 read of the record and of the count
+--   contourQuestions             what a call asks about its contour: 1, 2, 4, 5, 3, 12, 6
+--   correctingQuestions          and then 13 and 9
+--   correctRefusal               the number that it answers
+--   edgesAfter, corrected        the record and the tile afterwards
+--   tileOf, callOf, putting,
+--   taking                       a tile and a call from what the code is given
+use mathlib.Core.List.{List, [], _∷_, _++_}
+use Prim.Native.Nat.{ℕ, _+_, _-_}
+use lib.ListN.{getD}
+use lib.IntN.{ℤ, pos, negsuc, _*ℤ_}
+use Rattle.placement.specs.declared.Placement.{Placement}
+use Rattle.placement.specs.Placed.{placed}
+use Rattle.accuracy.specs.Outline.{Point, pointsOf, contourEdges}
+use Rattle.rasterize.specs.Added.{added}
+use Rattle.tile.specs.declared.corrections.Change.{Change}
+use Rattle.tile.specs.declared.corrections.Change.the-variants.{Put, Take}
+use Rattle.tile.specs.Questions.{Question, firstNo, outlineQuestions, question13, question9Twice}
+use Rattle.tile.specs.Outcomes.{ifDone, edgesTable}
+
+-- "A tile is now a table with a record of its edge count."
+pub record Tile : Type 0 where
+  pub table : List ℤ
+  pub edges : ℕ
+
+-- "Each takes one count, its points and a placement"
+pub record Call : Type 0 where
+  pub change : Change
+  pub points : List ℤ
+  pub count : ℕ
+  pub placement : Placement
+
+-- ---- the contour
+abbrev pub Contour : Type 0
+Contour = List Point
+
+-- "the contour is the points as placed"
+abbrev pub contourOf : Call → Contour
+contourOf k = pointsOf (placed (k .placement) (k .points))
+
+-- "a contour's rounded values": the entries of the table of that contour alone
+abbrev pub part : ℕ → Contour → ℕ → ℤ
+part side c i = getD (edgesTable side (contourEdges c)) i (pos 0)
+
+-- "Putting in adds a contour's rounded values to the table; taking out is its inverse."
+abbrev pub signOf : Change → ℤ
+signOf Put = pos 1
+signOf Take = negsuc 0
+
+abbrev pub wouldLeave : ℕ → Call → Tile → List ℤ
+wouldLeave side k t = added (t .table) (λ i. signOf (k .change) *ℤ part side (contourOf k) i)
+
+-- ---- the questions
+-- how many edges question 5 counts beside the contour's: for taking out it is 01's question, of the contour alone
+abbrev pub alreadyIn : Change → ℕ → ℕ
+alreadyIn Put edges = edges
+alreadyIn Take edges = 0
+
+-- how many edges question 13 is about: putting in takes out none, so its answer there is yes
+abbrev pub takenOut : Change → ℕ → ℕ
+takenOut Put count = 0
+takenOut Take count = count
+
+-- those about the contour: 1, 2, 4, 5, 3, 12, 6, of an outline of one count
+abbrev pub contourQuestions : ℕ → Call → Tile → List Question
+contourQuestions side k t = outlineQuestions side (k .points) (k .count ∷ []) (k .placement) (alreadyIn (k .change) (t .edges)) (t .table)
+
+-- "13, after 6 and before 9"
+abbrev pub correctingQuestions : ℕ → Call → Tile → List Question
+correctingQuestions side k t =
+    contourQuestions side k t ++ (question13 (takenOut (k .change) (k .count)) (t .edges) ∷ question9Twice (t .table) (wouldLeave side k t) ∷ [])
+
+-- ---- the outcome
+abbrev pub correctRefusal : ℕ → Call → Tile → ℕ
+correctRefusal side k t = firstNo (correctingQuestions side k t)
+
+abbrev pub edgesAfter : Change → ℕ → ℕ → ℕ
+edgesAfter Put count edges = edges + count
+edgesAfter Take count edges = edges - count
+
+-- "A refused call changes nothing."
+abbrev pub corrected : ℕ → Call → Tile → Tile
+corrected side k t = ifDone (correctRefusal side k t) (record { table = wouldLeave side k t; edges = edgesAfter (k .change) (k .count) (t .edges) }) t
+
+-- ---- as the code is given them
+abbrev pub tileOf : List ℤ → ℕ → Tile
+tileOf table edges = record { table = table; edges = edges }
+
+abbrev pub callOf : Change → List ℤ → ℕ → Placement → Call
+callOf change points count placement = record { change = change; points = points; count = count; placement = placement }
+
+abbrev pub putting : List ℤ → ℕ → Placement → Call
+putting = callOf Put
+
+abbrev pub taking : List ℤ → ℕ → Placement → Call
+taking = callOf Take

@@ -1,0 +1,116 @@
+-- The outline of given contours, as building takes it: its contours are these, and building accepts it exactly where each of them is one that it accepts
+-- and they have no more edges than the most.
+--
+-- Main results
+--   isContour side c             questions 4 and 6 of one contour
+--   contours-back                the contours of the outline are those that it was made of
+--   points-back                  the coordinates of a contour's points are those that it was read from
+--   coordinates-back             the outline of contours that were read from an outline is that one
+--   edges-counted                its edge count
+--   written-accepted             when building accepts it
+use mathlib.Core.Path.{_≡_, refl, sym, _∙_, ap, ap₂, subst, subst⁻¹}
+use mathlib.Core.Logic.{_↔_}
+use mathlib.Core.Bool.{Bool, true, false, _&&_}
+use mathlib.Core.List.{List, [], _∷_, _++_}
+use Prim.Native.Nat.{ℕ, _+_, _-_, _*_, _≤_}
+use native.Mathlib.Omega.{arith}
+use lib.Dec.{leb}
+use lib.ListN.{length, take, drop, length-append, length-drop, take-append-drop}
+use lib.Seq.{take-at, drop-append-seam, length-take-le}
+use lib.IntN.{ℤ, pos}
+use Rattle.integers.specs.Units.{stepsPerPixel, fewestPoints, mostPoints, mostEdges}
+use Rattle.integers.specs.ListSum.{tally}
+use Rattle.integers.specs.Tests.{every, between, and-means}
+use Rattle.integers.specs.Every.{every-append, every-both}
+use Rattle.accuracy.specs.Outline.{Point, pointsOf, contoursOf, edgeCount}
+use Rattle.accuracy.specs.Laws.Coordinates.{taken-points}
+use Rattle.tile.specs.Questions.{Yes, question1, question2, question4, question6}
+use Rattle.tile.specs.Outcomes.{buildRefusal}
+use Rattle.tile.specs.Refusals.{building-refusals, question3-means, question5-means}
+use Rattle.tile.specs.Corrections.{Contour}
+use Rattle.tile.specs.Holding.{coordinatesOf, coordinates, countsOf}
+
+abbrev pub isContour : ℕ → Contour → Bool
+isContour side c = question4 (length c ∷ []) .answer && question6 side (coordinatesOf c) .answer
+
+-- ---- one contour
+back-points : (c : Contour) → pointsOf (coordinatesOf c) ≡ c
+unfolding pointsOf coordinatesOf
+back-points [] = refl
+back-points (p ∷ c) = ap (λ l. p ∷ l) (back-points c)
+
+coordinatesOf-length : (c : Contour) → length (coordinatesOf c) ≡ 2 * length c
+unfolding coordinatesOf
+coordinatesOf-length [] = refl
+coordinatesOf-length (p ∷ c) = omega (arith, coordinatesOf-length c)
+
+pub points-back : (n : ℕ) (l : List ℤ) → length l ≡ 2 * n → coordinatesOf (pointsOf l) ≡ l
+unfolding pointsOf coordinatesOf
+points-back n [] e = refl
+points-back n (x ∷ []) e = absurd (omega arith)
+points-back n (x ∷ y ∷ l) e = ap (λ r. x ∷ y ∷ r) (points-back (n - 1) l (omega arith))
+
+-- ---- all of them
+pub contours-back : (cs : List Contour) → contoursOf (countsOf cs) (coordinates cs) ≡ cs
+unfolding contoursOf coordinates
+contours-back [] = refl
+contours-back (c ∷ cs) =
+    ap₂ _∷_ (ap pointsOf (take-at (coordinatesOf c) (coordinates cs) (2 * length c) (coordinatesOf-length c)) ∙ back-points c)
+    (ap (contoursOf (countsOf cs)) (ap (λ n. drop n (coordinatesOf c ++ coordinates cs)) (sym (coordinatesOf-length c)) ∙ drop-append-seam (coordinatesOf c) (coordinates cs))
+    ∙ contours-back cs)
+
+pub coordinates-back : (counts : List ℕ) (points : List ℤ) → length points ≡ 2 * edgeCount counts
+    → (coordinates (contoursOf counts points) ≡ points) × (countsOf (contoursOf counts points) ≡ counts)
+unfolding contoursOf coordinates tally
+coordinates-back [] [] e = (refl, refl)
+coordinates-back [] (z ∷ points) e = absurd (omega arith)
+coordinates-back (n ∷ counts) points e =
+    let first : length (take (2 * n) points) ≡ 2 * n = length-take-le (2 * n) points (omega arith) in
+    let rest = coordinates-back counts (drop (2 * n) points) (omega (arith, length-drop (2 * n) points)) in
+    (ap₂ _++_ (points-back n (take (2 * n) points) first) (rest .0) ∙ take-append-drop (2 * n) points, ap₂ _∷_ (taken-points n points (omega arith)) (rest .1))
+
+pub edges-counted : (cs : List Contour) → edgeCount (countsOf cs) ≡ tally length cs
+unfolding tally
+edges-counted [] = refl
+edges-counted (c ∷ cs) = ap (λ n. length c + n) (edges-counted cs)
+
+coordinates-length : (cs : List Contour) → length (coordinates cs) ≡ 2 * edgeCount (countsOf cs)
+unfolding coordinates tally
+coordinates-length [] = refl
+coordinates-length (c ∷ cs) = length-append (coordinatesOf c) (coordinates cs) ∙ omega (arith, coordinatesOf-length c, coordinates-length cs)
+
+-- ---- accepted
+counts-asked : (cs : List Contour) → question4 (countsOf cs) .answer ≡ every (λ c. question4 (length c ∷ []) .answer) cs
+counts-asked [] = refl
+counts-asked (c ∷ cs) =
+    every-append (λ n. leb fewestPoints n && leb n mostPoints) (length c ∷ []) (countsOf cs)
+    ∙ ap (λ b. question4 (length c ∷ []) .answer && b) (counts-asked cs)
+
+coordinates-asked : (side : ℕ) (cs : List Contour) → question6 side (coordinates cs) .answer ≡ every (λ c. question6 side (coordinatesOf c) .answer) cs
+unfolding coordinates
+coordinates-asked side [] = refl
+coordinates-asked side (c ∷ cs) =
+    every-append (between (pos 0) (pos (stepsPerPixel * side))) (coordinatesOf c) (coordinates cs) ∙ ap (λ b. question6 side (coordinatesOf c) .answer && b) (coordinates-asked side cs)
+
+contours-asked : (side : ℕ) (cs : List Contour) → every (isContour side) cs ≡ (question4 (countsOf cs) .answer && question6 side (coordinates cs) .answer)
+contours-asked side cs =
+    every-both (λ c. question4 (length c ∷ []) .answer) (λ c. question6 side (coordinatesOf c) .answer) cs
+    ∙ sym (ap₂ _&&_ (counts-asked cs) (coordinates-asked side cs))
+
+-- the answers that do not depend on the table
+pub written-accepted : (side : ℕ) (cs : List Contour) (before : List ℤ) → (buildRefusal side (coordinates cs) (countsOf cs) before ≡ 0)
+    ↔ (Yes (question1 side) × Yes (question2 side before) × (every (isContour side) cs ≡ true) × (tally length cs ≤ mostEdges))
+written-accepted side cs before =
+    let all = building-refusals side (coordinates cs) (countsOf cs) before .accepted in
+    let few = question5-means (countsOf cs) in
+    let enough = question3-means (coordinates cs) (countsOf cs) .1 (coordinates-length cs) in
+    let both = and-means (question4 (countsOf cs) .answer) (question6 side (coordinates cs) .answer) (λ e. e, λ e. e) (λ e. e, λ e. e) in (
+      λ done. (let y = all .0 done in (
+        y .0,
+        y .1 .0,
+        contours-asked side cs ∙ both .1 (y .1 .1 .0, y .1 .1 .1 .1 .1 .0),
+        subst (λ n. n ≤ mostEdges) (edges-counted cs) (few .0 (y .1 .1 .1 .0)),
+      )),
+      λ h. (let right = both .0 (sym (contours-asked side cs) ∙ h .2) in
+      all .1 (h .0, (h .1, (right .0, (few .1 (subst⁻¹ (λ n. n ≤ mostEdges) (edges-counted cs) (h .3)), (enough, (right .1, tt))))))),
+    )

@@ -1,0 +1,47 @@
+-- The law of a series of corrections (02, P3): "From an empty tile, nothing else writing, after any series in which each contour taken out had been put in
+-- and not yet taken out, table and count are those of building what remains, in any order of the contours. So a corrected letter is as near to its ink
+-- as one drawn afresh."
+--
+-- A series is a list of calls, one after the other, each on the tile that the one before left. It is said of calls of any kind, so that other kinds of
+-- contours have it too.
+--
+-- Definitions
+--   Calls K C                    calls k : K, each of a contour of the kind C: what is done with it, what is answered, and what is left
+--   run calls ks t               the tile after the calls ks
+--   Lawful calls t cs ks rest    by the calls ks, from the tile t that has the contours cs in it, to the contours rest: what is taken out is in
+--   corrections side             the calls `put` and `take` on a tile of that side
+--   Series side                  a series of these
+use mathlib.Core.Path.{_≡_}
+use mathlib.Core.Logic.{_≢_}
+use mathlib.Core.List.{List, [], _∷_, Perm}
+use Prim.Native.Nat.{ℕ}
+use Rattle.tile.specs.declared.corrections.Change.{Change}
+use Rattle.tile.specs.declared.corrections.Change.the-variants.{Put, Take}
+use Rattle.tile.specs.Corrections.{Tile, Call, Contour, contourOf, correctRefusal, corrected}
+
+pub record Calls (K C : Type 0) : Type 0 where
+  pub change : K → Change
+  pub contour : K → C
+  pub number : K → Tile → ℕ
+  pub after : K → Tile → Tile
+
+unfoldable pub run : {K C : Type 0} → Calls K C → List K → Tile → Tile
+run calls [] t = t
+run calls (k ∷ ks) t = run calls ks (calls .after k t)
+
+-- A refused call may stand anywhere. "each contour taken out had been put in and not yet taken out": it is one of those that are in, whichever.
+pub data Lawful {K C : Type 0} (calls : Calls K C) : Tile → List C → List K → List C → Type 0 where
+  none : {t : Tile} {cs : List C} → Lawful calls t cs [] cs
+  refused : {t : Tile} {cs : List C} {k : K} {ks : List K} {rest : List C} → calls .number k t ≢ 0
+      → Lawful calls (calls .after k t) cs ks rest → Lawful calls t cs (k ∷ ks) rest
+  put : {t : Tile} {cs : List C} {k : K} {ks : List K} {rest : List C} → calls .number k t ≡ 0 → calls .change k ≡ Put
+      → Lawful calls (calls .after k t) (calls .contour k ∷ cs) ks rest → Lawful calls t cs (k ∷ ks) rest
+  taken : {t : Tile} {cs : List C} {k : K} {ks : List K} {others rest : List C} → calls .number k t ≡ 0 → calls .change k ≡ Take
+      → Perm cs (calls .contour k ∷ others) → Lawful calls (calls .after k t) others ks rest → Lawful calls t cs (k ∷ ks) rest
+
+-- ---- `put` and `take`, as their contracts have them
+abbrev pub corrections : ℕ → Calls Call Contour
+corrections side = record { change = λ k. k .change; contour = contourOf; number = correctRefusal side; after = corrected side }
+
+abbrev pub Series : ℕ → Tile → List Contour → List Call → List Contour → Type 0
+Series side = Lawful (corrections side)
