@@ -1,27 +1,33 @@
-/* Grey tiles from traced outlines: the five calls of the proved library libtile_c.a, which `rt staticlib tile_c` makes.
+/* Grey tiles from traced outlines: the seven calls of the proved library libtile_c.a, which `rt staticlib tile_c` makes.
  *
  * A tile is a square of 1, 2, 4, 8, 16, 32 or 64 pixels a side; a step is 1/256 pixel; x grows to the right, y downwards. An outline is
  * closed contours of whole points, letters clockwise as seen on the page, the holes in them anticlockwise. Building turns it into a table of
  * Haar coefficients, from which pictures are drawn at full size (the deepest level, 6 for side 64) and at every halving, down to level 0.
  *
- * Each call answers 0 where the work is done, or the number of the first question that is answered no, and then no table and no picture has
- * changed. The questions, in each call's order:
+ * A table with a record of its edge count is a tile into which single contours may be put, and taken out again: what is left is what building
+ * the contours that remain would leave.
+ *
+ * Each call answers 0 where the work is done, or the number of the first question that is answered no, and then no table, no picture and no
+ * record has changed. The questions, in each call's order:
  *
  *   building: 1, 2, 4, 5, 3, 6      building with a placement: 1, 2, 4, 5, 3, 12, 6
+ *   putting in: 1, 2, 4, 5, 3, 12, 6, 9      taking out: 1, 2, 4, 5, 3, 12, 6, 13, 9
  *   pictures and greys: 1, 2, 7, 8, 9      one cell: 1, 2, 7, 10, 9
  *
  *    1  Is the side 1, 2, 4, 8, 16, 32 or 64?
  *    2  Has the table exactly side x side entries?
  *    3  Are the points exactly twice as many numbers as the counts' sum?
  *    4  Is every count from 3 to 1,024?
- *    5  Is the counts' sum at most 1,024?
+ *    5  Is the counts' sum at most 1,024? For putting in: with the record's count.
  *    6  Is every coordinate, as placed, from 0 to 256 x side?
  *    7  Is the level at most the depth, the number of halvings from the side to 1?
  *    8  Has the picture exactly 4^level places?
- *    9  Is every entry of the table from -2^40 to 2^40?
+ *    9  Is every entry of the table from -2^40 to 2^40? For putting in and taking out: of the table as it is, and of the one that the call
+ *       would leave.
  *   10  Are both cell numbers below 2^level?
  *   12  Is every number of the placement a multiple of 1/65,536 in its range (factors from -2 to 2, offsets from -16,384 to 16,384), and
  *       every coordinate that is moved from -32,768 to 32,767?
+ *   13  Does the record count at least as many edges as are taken out?
  *
  * Numbers may be any. What the caller owes, since no function can ask it: a pointer is not NULL, even where its length is 0, is aligned for
  * what it points to, and as many elements as its length says are there; what is written overlaps nothing else that is passed; nobody else
@@ -55,6 +61,18 @@ uint32_t mattuliyan_build(uint32_t side, const int64_t *points, size_t points_le
 uint32_t mattuliyan_build_placed(uint32_t side, const int64_t *points, size_t points_length, const uint32_t *counts,
                                  size_t counts_length, const double *placement, size_t placement_length, int64_t *table,
                                  size_t table_length, uint32_t *edges);
+
+/* Puts a contour into a tile: points has x and y of each of its count points in turn, in steps, and the contour is these as placed; the
+ * placement is handed over as to mattuliyan_build_placed. What it adds to each entry is added to the table, and its count to *edges, the
+ * record. A tile begins with a table of zeros and a record of 0, or with what building left. */
+uint32_t mattuliyan_put(uint32_t side, const int64_t *points, size_t points_length, uint32_t count, const double *placement,
+                        size_t placement_length, uint32_t *edges, int64_t *table, size_t table_length);
+
+/* Takes a contour out of a tile again: as mattuliyan_put, with its values taken from the table and its count from *edges. A contour is known
+ * by its points as placed, so it may be taken out under another placement than it was put in, if that leads to the same points. Only a contour
+ * that is in should be taken out: the call cannot tell, and takes out any whose count the record allows. */
+uint32_t mattuliyan_take(uint32_t side, const int64_t *points, size_t points_length, uint32_t count, const double *placement,
+                         size_t placement_length, uint32_t *edges, int64_t *table, size_t table_length);
 
 /* Draws the figures of a level, row by row from the top left: 4^level times each cell's area, in units of which 131,072 are a pixel. */
 uint32_t mattuliyan_figures(uint32_t side, uint32_t level, const int64_t *table, size_t table_length, int64_t *picture,

@@ -1,4 +1,4 @@
-// The five calls for programs in C or Rust: `include/mattuliyan.h` declares them, and says what its caller owes.
+// The seven calls for programs in C or Rust: `include/mattuliyan.h` declares them, and says what its caller owes.
 //
 // A slice is passed as a pointer and a length. A call of `tile` that answers two numbers answers the first, that of the refusal or 0, and writes the
 // second through a pointer.
@@ -6,6 +6,8 @@ ghost use mathlib.Core.Path.{_≡_};
 ghost use lib.ListN.{length};
 ghost use Rattle.tile.specs.Outcomes.{buildResult, buildTable, placedResult, placedTable, drawRefusal, figuresPicture, greysPicture, cellResult};
 ghost use Rattle.tile.specs.Faithful.{Faithful, FaithfulPlaced};
+ghost use Rattle.tile.specs.Corrections.{tileOf, putting, taking, correctRefusal, corrected};
+ghost use Rattle.tile.specs.Holding.{HoldsOneMore, HoldsOneLess};
 ghost use Rattle.tile_c.specs.PlacementNumbers.{placementOf};
 use placement::Matrix;
 use placement::Placement;
@@ -88,6 +90,44 @@ pub extern "C" fn mattuliyan_build_placed(
     let placed = tile::build_placed(side, points, counts, placement_of(placement), table);
     *edges = placed.edges;
     placed.number
+}
+
+// `tile::put`: `edges` is the record, read and written.
+#[no_mangle]
+pub extern "C" fn mattuliyan_put(
+    side: u32,
+    points: &[i64],
+    count: u32,
+    placement: &[f64],
+    edges: &mut u32,
+    table: &mut [i64],
+) -> u32
+    ensures { λ r. ⌜ r ≡ correctRefusal side (putting (now (points .entry)) count (placementOf (now (placement .entry)))) (tileOf (now (table .entry)) (now (edges .entry))) ⌝ }
+    ensures { λ _. ⌜ now (edges .exit) ≡ corrected side (putting (now (points .entry)) count (placementOf (now (placement .entry)))) (tileOf (now (table .entry)) (now (edges .entry))) .edges ⌝ }
+    ensures { λ _. ⌜ now (table .exit) ≡ corrected side (putting (now (points .entry)) count (placementOf (now (placement .entry)))) (tileOf (now (table .entry)) (now (edges .entry))) .table ⌝ }
+    ensures { λ _. ⌜ HoldsOneMore side (putting (now (points .entry)) count (placementOf (now (placement .entry)))) (tileOf (now (table .entry)) (now (edges .entry))) (tileOf (now (table .exit)) (now (edges .exit))) ⌝ }
+    ensures { λ _. ⌜ (now (points .exit) ≡ now (points .entry)) × (now (placement .exit) ≡ now (placement .entry)) ⌝ }
+{
+    tile::put(side, points, count, placement_of(placement), edges, table)
+}
+
+// `tile::take`: `edges` is the record, read and written.
+#[no_mangle]
+pub extern "C" fn mattuliyan_take(
+    side: u32,
+    points: &[i64],
+    count: u32,
+    placement: &[f64],
+    edges: &mut u32,
+    table: &mut [i64],
+) -> u32
+    ensures { λ r. ⌜ r ≡ correctRefusal side (taking (now (points .entry)) count (placementOf (now (placement .entry)))) (tileOf (now (table .entry)) (now (edges .entry))) ⌝ }
+    ensures { λ _. ⌜ now (edges .exit) ≡ corrected side (taking (now (points .entry)) count (placementOf (now (placement .entry)))) (tileOf (now (table .entry)) (now (edges .entry))) .edges ⌝ }
+    ensures { λ _. ⌜ now (table .exit) ≡ corrected side (taking (now (points .entry)) count (placementOf (now (placement .entry)))) (tileOf (now (table .entry)) (now (edges .entry))) .table ⌝ }
+    ensures { λ _. ⌜ HoldsOneLess side (taking (now (points .entry)) count (placementOf (now (placement .entry)))) (tileOf (now (table .entry)) (now (edges .entry))) (tileOf (now (table .exit)) (now (edges .exit))) ⌝ }
+    ensures { λ _. ⌜ (now (points .exit) ≡ now (points .entry)) × (now (placement .exit) ≡ now (placement .entry)) ⌝ }
+{
+    tile::take(side, points, count, placement_of(placement), edges, table)
 }
 
 // `tile::figures`.
