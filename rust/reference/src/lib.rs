@@ -1,10 +1,10 @@
 //! An independent reference for grey tiles from traced outlines.
 //!
-//! It states the specification ("01") and the paragraph P1 of the change
-//! requests ("02"), placements, a second time, in plain Rust and by another
-//! method than the product, so that the two can be compared on any input. It
-//! is written to be read: nothing here is tuned beyond what running it on many
-//! thousands of outlines needs.
+//! It states the specification ("01") and two paragraphs of the change requests
+//! ("02"), P1 on placements and P3 on contours put in and taken out, a second
+//! time, in plain Rust and by another method than the product, so that the two
+//! can be compared on any input. It is written to be read: nothing here is
+//! tuned beyond what running it on many thousands of outlines needs.
 //!
 //! # How areas are worked out
 //!
@@ -59,6 +59,14 @@
 //! Whoever measures demand 3 for a placed outline hands the points of
 //! [`placed`] to [`exact_areas`].
 //!
+//! # How tiles are corrected
+//!
+//! 02 puts a contour into a tile, a table with a record of its edge count, or
+//! takes it out. Here the contour's own table is worked out as for building it
+//! alone, and added to the tile's entry by entry, or subtracted from it, in 128
+//! bits, so that there is an answer for any table at all. [`put`] and [`take`]
+//! write where nothing is refused, and only then.
+//!
 //! # The rules, and wrong rules
 //!
 //! What a careful person may get wrong stands in the trait [`Rules`], whose
@@ -69,14 +77,15 @@
 //!
 //! # Reading order
 //!
-//! `rules`, `questions`, `placement`, `edge`, `table`, `picture`, `area`,
-//! `frame`; then `exact` and `big`, the arithmetic below; then `wrong`.
+//! `rules`, `questions`, `placement`, `edge`, `table`, `correction`, `picture`,
+//! `area`, `frame`; then `exact` and `big`, the arithmetic below; then `wrong`.
 
 #![forbid(unsafe_code)]
 #![warn(missing_docs)]
 
 mod area;
 mod big;
+mod correction;
 mod edge;
 mod exact;
 mod frame;
@@ -88,6 +97,7 @@ mod table;
 pub mod wrong;
 
 pub use area::{exact_areas, exact_details, signed_area};
+pub use correction::{put, take, Correction};
 pub use edge::{Bend, Cell, Edge, Fraction, Profile};
 pub use exact::{Exact, Miss};
 pub use frame::{frame, tile_program, Frame};

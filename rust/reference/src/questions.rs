@@ -3,12 +3,14 @@
 //! Each question is answered on its own, for any input at all, so that the
 //! order in which they are asked is a mere list.
 
+use crate::correction::Correction;
 use crate::placement::{moved, numbers, Placement};
 use crate::rules::Rules;
 use crate::{PARTS, STEPS};
 
-/// 01's ten questions about a call and 02's about a placement, which is 12;
-/// each one's number is the refusal's. 11 is the tile program's alone.
+/// 01's ten questions about a call, 02's about a placement, which is 12, and
+/// 02's about taking out, which is 13; each one's number is the refusal's. 11
+/// is the tile program's alone.
 #[derive(Clone, Copy, Debug, PartialEq, Eq)]
 pub enum Question {
     /// Is the side 1, 2, 4, 8, 16, 32 or 64?
@@ -19,7 +21,8 @@ pub enum Question {
     PointsLength = 3,
     /// Is every count from 3 to 1,024?
     EachCount = 4,
-    /// Is the counts' sum at most 1,024?
+    /// Is the counts' sum at most 1,024? For putting in, is the record's count
+    /// plus the contour's?
     CountSum = 5,
     /// Is every coordinate, as placed, from 0 to 256 × side?
     Coordinates = 6,
@@ -27,13 +30,16 @@ pub enum Question {
     Level = 7,
     /// Has the picture exactly 4^level places?
     Places = 8,
-    /// Is every entry of the table from −2^40 to 2^40?
+    /// Is every entry of the table from −2^40 to 2^40? For putting in and taking
+    /// out, of the table before the call and of the one it would leave?
     Entries = 9,
     /// Are both cell numbers below 2^level?
     CellNumbers = 10,
     /// Is every float handed in a multiple of 1/65,536 within its limits, and
     /// every coordinate to be moved from −32,768 to 32,767?
     Placing = 12,
+    /// Does the record count as many edges as are taken out, or more?
+    EnoughRecorded = 13,
 }
 
 /// The limits that the questions compare with.
@@ -88,6 +94,10 @@ pub(crate) struct Given<'a> {
     pub level: u32,
     pub places: usize,
     pub cell: (u32, u32),
+    pub correction: Option<Correction>,
+    pub record: u32,
+    /// The table that a correction would leave, where it would leave one.
+    pub leaves: Option<&'a [i128]>,
 }
 
 impl Given<'_> {
@@ -108,7 +118,7 @@ impl Given<'_> {
             Question::EachCount => {
                 self.counts.iter().all(|count| (limits.least_count..=limits.most_count).contains(count))
             }
-            Question::CountSum => sum(self.counts) <= u128::from(limits.most_edges),
+            Question::CountSum => self.edges(rules) <= u128::from(limits.most_edges),
             Question::Coordinates => {
                 let far = STEPS * i64::from(self.side);
                 match moved(rules, self.placement, self.points) {
@@ -121,8 +131,14 @@ impl Given<'_> {
             Question::Level => self.level <= depth(self.side),
             Question::Places => power(4, self.level) == Some(self.places as u128),
             Question::Entries => {
-                let drawn = -limits.largest_entry..=limits.largest_entry;
-                self.table.iter().all(|entry| drawn.contains(entry))
+                let largest = limits.largest_entry;
+                match (self.correction, self.leaves) {
+                    (Some(correction), Some(after)) => {
+                        let drawn = |entry: i128| entry.abs() <= largest.into();
+                        rules.asked_entries(correction, self.table, after).into_iter().all(drawn)
+                    }
+                    _ => self.table.iter().all(|entry| (-largest..=largest).contains(entry)),
+                }
             }
             Question::CellNumbers => {
                 // A power past 2^127 is above any cell number.
@@ -135,6 +151,15 @@ impl Given<'_> {
                 let points = || self.points.iter().all(|x| movable.contains(x));
                 !rules.moves_points(self.placement) || (floats() && points())
             }
+            Question::EnoughRecorded => rules.enough_recorded(self.record, sum(self.counts)),
+        }
+    }
+
+    /// The edges that question 5 is about.
+    fn edges(&self, rules: &dyn Rules) -> u128 {
+        match self.correction {
+            Some(correction) => rules.asked_edges(correction, self.record, sum(self.counts)),
+            None => sum(self.counts),
         }
     }
 }

@@ -1,12 +1,13 @@
-//! 01's rules and those of 02's P1, one small method each.
+//! 01's rules and those of 02's P1 and P3, one small method each.
 
-use crate::edge::{Fraction, Profile};
+use crate::correction::Correction;
+use crate::edge::{Edge, Fraction, Profile};
 use crate::placement::{in_parts, Placement};
 use crate::questions::{Limits, Question};
 use crate::{FULL_GREY, PARTS, PIXEL};
 
-/// The rules of 01 and of 02's P1 that are easily got wrong. Each default body
-/// is the papers' rule; a wrong variant overrides one of them.
+/// The rules of 01 and of 02's P1 and P3 that are easily got wrong. Each default
+/// body is the papers' rule; a wrong variant overrides one of them.
 pub trait Rules {
     /// The questions for building, in order: 1, 2, 4, 5, 3, 12, 6.
     fn building(&self) -> Vec<Question> {
@@ -24,6 +25,19 @@ pub trait Rules {
     fn one_cell(&self) -> Vec<Question> {
         use Question::*;
         vec![Side, TableLength, Level, CellNumbers, Entries]
+    }
+
+    /// The questions for putting a contour in, in order: 1, 2, 4, 5, 3, 12, 6, 9.
+    fn putting(&self) -> Vec<Question> {
+        use Question::*;
+        vec![Side, TableLength, EachCount, CountSum, PointsLength, Placing, Coordinates, Entries]
+    }
+
+    /// The questions for taking a contour out, in order: 1, 2, 4, 5, 3, 12, 6,
+    /// 13, 9. 13 comes "after 6 and before 9."
+    fn taking(&self) -> Vec<Question> {
+        use Question::*;
+        vec![Side, TableLength, EachCount, CountSum, PointsLength, Placing, Coordinates, EnoughRecorded, Entries]
     }
 
     /// The limits that the questions compare with.
@@ -135,9 +149,75 @@ pub trait Rules {
     fn judged<'a>(&self, _before: &'a [i64], placed: &'a [i64]) -> &'a [i64] {
         placed
     }
+
+    /// The edges that question 5 is about, of those the record counts and those
+    /// of the contour: "for putting in, question 5 is whether the record's count
+    /// plus the contour's is at most 1,024." For taking out it is 01's, of the
+    /// contour alone.
+    fn asked_edges(&self, correction: Correction, record: u32, edges: u128) -> u128 {
+        match correction {
+            Correction::PutIn => u128::from(record) + edges,
+            Correction::TakeOut => edges,
+        }
+    }
+
+    /// Question 13: "taking out more edges than the record counts gives 13", and
+    /// taking out as many does not.
+    fn enough_recorded(&self, record: u32, edges: u128) -> bool {
+        edges <= u128::from(record)
+    }
+
+    /// The entries that question 9 is about: it "is decided on the table before
+    /// the call and on the one it would leave", and on the whole of both.
+    fn asked_entries(&self, _correction: Correction, before: &[i64], after: &[i128]) -> Vec<i128> {
+        before.iter().map(|&entry| entry.into()).chain(after.iter().copied()).collect()
+    }
+
+    /// The points of the contour, of those that came and those placed: "the
+    /// contour is the points as placed", for taking out as well.
+    fn corrected_points<'a>(&self, _correction: Correction, _before: &'a [i64], placed: &'a [i64]) -> &'a [i64] {
+        placed
+    }
+
+    /// The edges whose values are added or subtracted, of all the contour's, the
+    /// closing one last: all of them, for taking out as well.
+    fn corrected_edges(&self, _correction: Correction, edges: Vec<Edge>) -> Vec<Edge> {
+        edges
+    }
+
+    /// An entry after the call, from what it was and the contour's value:
+    /// "putting in adds a contour's rounded values to the table; taking out is
+    /// its inverse."
+    fn changed(&self, correction: Correction, entry: i128, value: i128) -> i128 {
+        match correction {
+            Correction::PutIn => entry + value,
+            Correction::TakeOut => entry - value,
+        }
+    }
+
+    /// The record after the call, from what it was and the contour's count.
+    /// Questions 5 and 13 see to it that 32 bits hold it. For calls that are
+    /// refused it goes round at their end, and is not kept.
+    fn recorded(&self, correction: Correction, record: u32, count: u32) -> u32 {
+        match correction {
+            Correction::PutIn => record.wrapping_add(count),
+            Correction::TakeOut => record.wrapping_sub(count),
+        }
+    }
+
+    /// The record that a refused call leaves, of the one before it and the one
+    /// there would be if it were done: "a refused call changes nothing."
+    fn refused_record(&self, _number: u8, before: u32, _after: u32) -> u32 {
+        before
+    }
+
+    /// The table that a refused call leaves, likewise.
+    fn refused_table(&self, _number: u8, before: &[i64], _after: &[i128]) -> Vec<i64> {
+        before.to_vec()
+    }
 }
 
-/// 01, and 02's P1, as they stand.
+/// 01, and 02's P1 and P3, as they stand.
 #[derive(Clone, Copy, Debug, Default)]
 pub struct Spec;
 

@@ -1,6 +1,6 @@
 //! Building the table from an outline.
 
-use crate::edge::{edges, Cell};
+use crate::edge::{edges, Cell, Edge};
 use crate::placement::{placed, Placement};
 use crate::questions::{depth, Given};
 use crate::rules::Rules;
@@ -32,8 +32,14 @@ pub fn build_placed(
     given.ask(&rules.building(), rules)?;
 
     let edges = edges(rules, &placed(rules, placement, points), counts);
+    Ok((counts.iter().sum(), worked(rules, side, &edges)))
+}
+
+/// The table of some edges: entry 0 their signed area, and in each cell h, v
+/// and d.
+pub(crate) fn worked(rules: &dyn Rules, side: u32, edges: &[Edge]) -> Vec<i64> {
     let v_sign = rules.v_sign();
-    let mut built = vec![0; table.len()];
+    let mut built = vec![0; (side * side) as usize];
     built[0] = edges.iter().map(|edge| edge.shoelace()).sum();
 
     // The cell's edge values of h, v and d; zeros are left out, for an edge
@@ -45,7 +51,7 @@ pub fn build_placed(
                 let cell = Cell::of(side, j, cx, cy);
                 let across = rules.distance(cell.left, cell.width);
                 let down = rules.distance(cell.top, cell.width);
-                for edge in &edges {
+                for edge in edges {
                     let details = edge.details_by(v_sign, cell, &across, &down);
                     for (list, value) in values.iter_mut().zip(details) {
                         if value.num != 0 {
@@ -61,7 +67,7 @@ pub fn build_placed(
             }
         }
     }
-    Ok((counts.iter().sum(), built))
+    built
 }
 
 /// Where the entries h, v, d of a cell begin: 4^j + 3 × (cy × 2^j + cx).

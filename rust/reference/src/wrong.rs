@@ -1,7 +1,8 @@
-//! Wrong variants: each spoils one rule of 01 or of 02's P1, so that a
+//! Wrong variants: each spoils one rule of 01 or of 02's P1 or P3, so that a
 //! comparison with this reference can be shown to notice.
 
-use crate::edge::{Bend, Fraction, Profile};
+use crate::correction::{written, Correction};
+use crate::edge::{Bend, Edge, Fraction, Profile};
 use crate::exact::Exact;
 use crate::placement::Placement;
 use crate::questions::{Limits, Question};
@@ -60,6 +61,43 @@ pub fn of_placement() -> Vec<(&'static str, Box<dyn Rules>)> {
         ("question 12 asked before question 3", Box::new(PlacingBeforePointsLength)),
         ("question 12 asked after question 6", Box::new(PlacingAfterCoordinates)),
         ("question 6 asked of the points before they are moved", Box::new(JudgedBefore)),
+    ]
+}
+
+/// All variants of 02's P3, each with a short name. They have a list of their
+/// own because only [`put`](crate::put) and [`take`](crate::take) can tell them.
+pub fn of_correction() -> Vec<(&'static str, Box<dyn Rules>)> {
+    vec![
+        ("taking out adds", Box::new(TakingAdds)),
+        ("closing edge not taken out", Box::new(ClosingEdgeLeftIn)),
+        ("points put in where they were", Box::new(PutInUnplaced)),
+        ("points taken out where they were", Box::new(TakenOutUnplaced)),
+        ("record not increased by putting in", Box::new(NotCountedIn)),
+        ("record not decreased by taking out", Box::new(NotCountedOut)),
+        ("contours recorded, not edges", Box::new(ContoursRecorded)),
+        ("question 5 without the record when putting in", Box::new(RecordNotAsked)),
+        ("question 5 with the record when taking out", Box::new(RecordAskedTaking)),
+        ("question 5 with a sum of 32 bits", Box::new(RecordGoesRound)),
+        ("a record of 1,024 refused", Box::new(FullRecordRefused)),
+        ("question 13 not asked", Box::new(MoreTakenOut)),
+        ("question 13 for as many edges as the record counts", Box::new(AllRefused)),
+        ("question 13 asked when putting in", Box::new(RecordedAskedPutting)),
+        ("question 13 asked before question 6", Box::new(RecordedBeforeCoordinates)),
+        ("question 13 asked after question 9", Box::new(RecordedAfterEntries)),
+        ("question 9 asked before all about the contour", Box::new(EntriesBeforeContour)),
+        ("question 9 asked before question 6 when putting in", Box::new(EntriesBeforeCoordinates)),
+        ("question 3 asked before question 5 when putting in", Box::new(PointsLengthBeforeRecord)),
+        ("question 12 asked before question 3 of a contour", Box::new(ContourPlacedEarly)),
+        ("question 12 asked after question 6 of a contour", Box::new(ContourPlacedLate)),
+        ("question 9 asked only of the table before", Box::new(OnlyBefore)),
+        ("question 9 asked only of the table before when taking out", Box::new(OnlyBeforeTaking)),
+        ("question 9 asked only of the table after", Box::new(OnlyAfter)),
+        ("question 9 asked only of the root after", Box::new(OnlyRoot)),
+        ("question 9 asked only of entries that change", Box::new(OnlyChanged)),
+        ("the changed table left where question 9 refuses", Box::new(NotPutBack)),
+        ("the entries before the first out of range changed", Box::new(ChangedUpToFirst)),
+        ("the record counted where question 9 refuses", Box::new(CountedBeforeEntries)),
+        ("the record counted whatever is refused", Box::new(CountedFirst)),
     ]
 }
 
@@ -452,5 +490,339 @@ pub struct JudgedBefore;
 impl Rules for JudgedBefore {
     fn judged<'a>(&self, before: &'a [i64], _placed: &'a [i64]) -> &'a [i64] {
         before
+    }
+}
+
+/// Wrong: taking out puts the contour in a second time.
+pub struct TakingAdds;
+
+impl Rules for TakingAdds {
+    fn changed(&self, _correction: Correction, entry: i128, value: i128) -> i128 {
+        Spec.changed(Correction::PutIn, entry, value)
+    }
+}
+
+/// Wrong: of a contour taken out, the last point is not joined to the first.
+pub struct ClosingEdgeLeftIn;
+
+impl Rules for ClosingEdgeLeftIn {
+    fn corrected_edges(&self, correction: Correction, mut edges: Vec<Edge>) -> Vec<Edge> {
+        if correction == Correction::TakeOut {
+            edges.pop();
+        }
+        edges
+    }
+}
+
+/// Wrong: the placement of a contour put in is asked about and not used.
+pub struct PutInUnplaced;
+
+impl Rules for PutInUnplaced {
+    fn corrected_points<'a>(&self, correction: Correction, before: &'a [i64], placed: &'a [i64]) -> &'a [i64] {
+        match correction {
+            Correction::PutIn => before,
+            Correction::TakeOut => placed,
+        }
+    }
+}
+
+/// Wrong: the placement of a contour taken out is asked about and not used.
+pub struct TakenOutUnplaced;
+
+impl Rules for TakenOutUnplaced {
+    fn corrected_points<'a>(&self, correction: Correction, before: &'a [i64], placed: &'a [i64]) -> &'a [i64] {
+        match correction {
+            Correction::PutIn => placed,
+            Correction::TakeOut => before,
+        }
+    }
+}
+
+/// Wrong: the record is the same after putting in.
+pub struct NotCountedIn;
+
+impl Rules for NotCountedIn {
+    fn recorded(&self, correction: Correction, record: u32, count: u32) -> u32 {
+        match correction {
+            Correction::PutIn => record,
+            Correction::TakeOut => Spec.recorded(correction, record, count),
+        }
+    }
+}
+
+/// Wrong: the record is the same after taking out.
+pub struct NotCountedOut;
+
+impl Rules for NotCountedOut {
+    fn recorded(&self, correction: Correction, record: u32, count: u32) -> u32 {
+        match correction {
+            Correction::PutIn => Spec.recorded(correction, record, count),
+            Correction::TakeOut => record,
+        }
+    }
+}
+
+/// Wrong: a contour is one more or one less in the record.
+pub struct ContoursRecorded;
+
+impl Rules for ContoursRecorded {
+    fn recorded(&self, correction: Correction, record: u32, _count: u32) -> u32 {
+        Spec.recorded(correction, record, 1)
+    }
+}
+
+/// Wrong: putting in asks question 5 as building does, of the contour alone.
+pub struct RecordNotAsked;
+
+impl Rules for RecordNotAsked {
+    fn asked_edges(&self, _correction: Correction, _record: u32, edges: u128) -> u128 {
+        edges
+    }
+}
+
+/// Wrong: taking out asks question 5 as putting in does.
+pub struct RecordAskedTaking;
+
+impl Rules for RecordAskedTaking {
+    fn asked_edges(&self, _correction: Correction, record: u32, edges: u128) -> u128 {
+        Spec.asked_edges(Correction::PutIn, record, edges)
+    }
+}
+
+/// Wrong: a record of 2^32 − 1 and 3 edges are 2 edges.
+pub struct RecordGoesRound;
+
+impl Rules for RecordGoesRound {
+    fn asked_edges(&self, correction: Correction, record: u32, edges: u128) -> u128 {
+        Spec.asked_edges(correction, record, edges) % (1 << 32)
+    }
+}
+
+/// Wrong: 1,024 edges with those that the record counts are too many.
+pub struct FullRecordRefused;
+
+impl Rules for FullRecordRefused {
+    fn asked_edges(&self, correction: Correction, record: u32, edges: u128) -> u128 {
+        match correction {
+            Correction::PutIn => Spec.asked_edges(correction, record, edges) + 1,
+            Correction::TakeOut => edges,
+        }
+    }
+}
+
+/// Wrong: more edges than the record counts are taken out.
+pub struct MoreTakenOut;
+
+impl Rules for MoreTakenOut {
+    fn enough_recorded(&self, _record: u32, _edges: u128) -> bool {
+        true
+    }
+}
+
+/// Wrong: the last edges that the record counts cannot be taken out.
+pub struct AllRefused;
+
+impl Rules for AllRefused {
+    fn enough_recorded(&self, record: u32, edges: u128) -> bool {
+        edges < u128::from(record)
+    }
+}
+
+/// Wrong: putting in asks the questions of taking out.
+pub struct RecordedAskedPutting;
+
+impl Rules for RecordedAskedPutting {
+    fn putting(&self) -> Vec<Question> {
+        self.taking()
+    }
+}
+
+/// Wrong: taking out asks question 13 before question 6, not after it.
+pub struct RecordedBeforeCoordinates;
+
+impl Rules for RecordedBeforeCoordinates {
+    fn taking(&self) -> Vec<Question> {
+        use Question::*;
+        vec![Side, TableLength, EachCount, CountSum, PointsLength, Placing, EnoughRecorded, Coordinates, Entries]
+    }
+}
+
+/// Wrong: taking out asks question 13 after question 9, not before it.
+pub struct RecordedAfterEntries;
+
+impl Rules for RecordedAfterEntries {
+    fn taking(&self) -> Vec<Question> {
+        use Question::*;
+        vec![Side, TableLength, EachCount, CountSum, PointsLength, Placing, Coordinates, Entries, EnoughRecorded]
+    }
+}
+
+/// Wrong: the tile is asked about first, right after question 2, and then the
+/// contour.
+pub struct EntriesBeforeContour;
+
+impl Rules for EntriesBeforeContour {
+    fn putting(&self) -> Vec<Question> {
+        use Question::*;
+        vec![Side, TableLength, Entries, EachCount, CountSum, PointsLength, Placing, Coordinates]
+    }
+
+    fn taking(&self) -> Vec<Question> {
+        use Question::*;
+        vec![Side, TableLength, Entries, EachCount, CountSum, PointsLength, Placing, Coordinates, EnoughRecorded]
+    }
+}
+
+/// Wrong: putting in asks question 9 before question 6, not after it.
+pub struct EntriesBeforeCoordinates;
+
+impl Rules for EntriesBeforeCoordinates {
+    fn putting(&self) -> Vec<Question> {
+        use Question::*;
+        vec![Side, TableLength, EachCount, CountSum, PointsLength, Placing, Entries, Coordinates]
+    }
+}
+
+/// Wrong: putting in asks question 3 before question 5, not after it. For
+/// taking out this order is no other: question 4 has answered question 5.
+pub struct PointsLengthBeforeRecord;
+
+impl Rules for PointsLengthBeforeRecord {
+    fn putting(&self) -> Vec<Question> {
+        use Question::*;
+        vec![Side, TableLength, EachCount, PointsLength, CountSum, Placing, Coordinates, Entries]
+    }
+}
+
+/// Wrong: both corrections ask question 12 before question 3, not after it.
+pub struct ContourPlacedEarly;
+
+impl Rules for ContourPlacedEarly {
+    fn putting(&self) -> Vec<Question> {
+        use Question::*;
+        vec![Side, TableLength, EachCount, CountSum, Placing, PointsLength, Coordinates, Entries]
+    }
+
+    fn taking(&self) -> Vec<Question> {
+        use Question::*;
+        vec![Side, TableLength, EachCount, CountSum, Placing, PointsLength, Coordinates, EnoughRecorded, Entries]
+    }
+}
+
+/// Wrong: both corrections ask question 12 after question 6, not before it.
+pub struct ContourPlacedLate;
+
+impl Rules for ContourPlacedLate {
+    fn putting(&self) -> Vec<Question> {
+        use Question::*;
+        vec![Side, TableLength, EachCount, CountSum, PointsLength, Coordinates, Placing, Entries]
+    }
+
+    fn taking(&self) -> Vec<Question> {
+        use Question::*;
+        vec![Side, TableLength, EachCount, CountSum, PointsLength, Coordinates, Placing, EnoughRecorded, Entries]
+    }
+}
+
+/// Wrong: the table that the call would leave is not asked about.
+pub struct OnlyBefore;
+
+impl Rules for OnlyBefore {
+    fn asked_entries(&self, correction: Correction, before: &[i64], _after: &[i128]) -> Vec<i128> {
+        Spec.asked_entries(correction, before, &[])
+    }
+}
+
+/// Wrong: the table that taking out would leave is not asked about, as if what
+/// is taken out had always been put in.
+pub struct OnlyBeforeTaking;
+
+impl Rules for OnlyBeforeTaking {
+    fn asked_entries(&self, correction: Correction, before: &[i64], after: &[i128]) -> Vec<i128> {
+        match correction {
+            Correction::PutIn => Spec.asked_entries(correction, before, after),
+            Correction::TakeOut => Spec.asked_entries(correction, before, &[]),
+        }
+    }
+}
+
+/// Wrong: the table before the call is not asked about.
+pub struct OnlyAfter;
+
+impl Rules for OnlyAfter {
+    fn asked_entries(&self, correction: Correction, _before: &[i64], after: &[i128]) -> Vec<i128> {
+        Spec.asked_entries(correction, &[], after)
+    }
+}
+
+/// Wrong: of the table that the call would leave, only entry 0 is asked about,
+/// as if no other could be larger.
+pub struct OnlyRoot;
+
+impl Rules for OnlyRoot {
+    fn asked_entries(&self, correction: Correction, before: &[i64], after: &[i128]) -> Vec<i128> {
+        Spec.asked_entries(correction, before, &after[..1])
+    }
+}
+
+/// Wrong: an entry that the contour leaves as it is is not asked about.
+pub struct OnlyChanged;
+
+impl Rules for OnlyChanged {
+    fn asked_entries(&self, _correction: Correction, before: &[i64], after: &[i128]) -> Vec<i128> {
+        let both = before.iter().map(|&entry| i128::from(entry)).zip(after.iter().copied());
+        both.filter(|(before, after)| before != after).flat_map(|(before, after)| [before, after]).collect()
+    }
+}
+
+/// Wrong: question 9 is asked of the table once it is changed, and it stays so.
+pub struct NotPutBack;
+
+impl Rules for NotPutBack {
+    fn refused_table(&self, number: u8, before: &[i64], after: &[i128]) -> Vec<i64> {
+        if number == Question::Entries as u8 {
+            written(after)
+        } else {
+            before.to_vec()
+        }
+    }
+}
+
+/// Wrong: each entry is changed once it is found in range before and after, and
+/// those stay changed that come before the first out of range.
+pub struct ChangedUpToFirst;
+
+impl Rules for ChangedUpToFirst {
+    fn refused_table(&self, number: u8, before: &[i64], after: &[i128]) -> Vec<i64> {
+        let drawn = |entry: i128| entry.abs() <= self.limits().largest_entry.into();
+        let mut left = before.to_vec();
+        if number == Question::Entries as u8 {
+            let good = before.iter().zip(after).take_while(|(&before, &after)| drawn(before.into()) && drawn(after));
+            let good = good.count();
+            left[..good].copy_from_slice(&written(&after[..good]));
+        }
+        left
+    }
+}
+
+/// Wrong: the record is counted, and then question 9 refuses.
+pub struct CountedBeforeEntries;
+
+impl Rules for CountedBeforeEntries {
+    fn refused_record(&self, number: u8, before: u32, after: u32) -> u32 {
+        if number == Question::Entries as u8 {
+            after
+        } else {
+            before
+        }
+    }
+}
+
+/// Wrong: the record is counted before any question is asked.
+pub struct CountedFirst;
+
+impl Rules for CountedFirst {
+    fn refused_record(&self, _number: u8, _before: u32, after: u32) -> u32 {
+        after
     }
 }

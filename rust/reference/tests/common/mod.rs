@@ -1,7 +1,8 @@
-//! Pseudo-random outlines and placements for the tests, the same at each run.
+//! Pseudo-random outlines and placements for the tests, the same at each run,
+//! and calls that correct a tile.
 #![allow(dead_code)] // each test file uses a part of this
 
-use reference::Placement;
+use reference::{put, take, Correction, Placement, Rules};
 
 /// An outline that building accepts.
 #[derive(Clone, Debug)]
@@ -111,6 +112,43 @@ impl Random {
                 float(-160, 160),
             ]),
         }
+    }
+}
+
+/// A call that puts a contour in or takes it out.
+#[derive(Clone, Debug)]
+pub struct Call {
+    pub correction: Correction,
+    pub side: u32,
+    pub points: Vec<i64>,
+    pub count: u32,
+    pub placement: Placement,
+    pub record: u32,
+    pub table: Vec<i64>,
+}
+
+/// What a call answers, and the record and the table that it leaves.
+pub type Outcome = (Result<(), u8>, u32, Vec<i64>);
+
+impl Call {
+    /// A contour that is not moved.
+    pub fn of(correction: Correction, side: u32, points: &[i64], record: u32, table: &[i64]) -> Call {
+        let (count, placement) = (points.len() as u32 / 2, Placement::None);
+        Call { correction, side, points: points.to_vec(), count, placement, record, table: table.to_vec() }
+    }
+
+    pub fn outcome(&self, rules: &dyn Rules) -> Outcome {
+        let (mut record, mut table) = (self.record, self.table.clone());
+        let answer = match self.correction {
+            Correction::PutIn => put,
+            Correction::TakeOut => take,
+        }(rules, self.side, &self.points, self.count, self.placement, &mut record, &mut table);
+        (answer, record, table)
+    }
+
+    /// The outcome of a call that is refused with this number.
+    pub fn refused(&self, number: u8) -> Outcome {
+        (Err(number), self.record, self.table.clone())
     }
 }
 
