@@ -1,21 +1,17 @@
--- A contour added to a table in range, and taken out of it again.
+-- Room for a contour in a table in range, and for taking it out again.
 --
 -- Main results
 --   fits-contour, fits-again     there is room for its edges, and for taking them out again
 --   opposite-fits, back-within   the opposite of a sign is one
---   undone                       what is added and taken out again leaves the table
-use mathlib.Core.Path.{_≡_, refl, sym, _∙_, ap, subst⁻¹}
-use mathlib.Core.List.{List, [], _∷_}
+use mathlib.Core.Path.{_≡_, sym, _∙_, ap}
 use Prim.Native.Nat.{ℕ, _+_, _/_, _≤_}
 use native.Mathlib.Omega.{arith}
-use lib.ListN.{length, getD}
-use lib.IntN.{ℤ, pos, _+ℤ_, _-ℤ_, _*ℤ_}
+use lib.ListN.{length}
+use lib.IntN.{pos, _-ℤ_}
 use lib.Signed.{leZ-yes}
 use mir.Syntax.{w64}
 use mir.Val.{SFits}
 use mir.Facts.{sfits-lit}
-use Rattle.integers.specs.Ring.{read, ring}
-use Rattle.integers.specs.Units.{mostEdges}
 use Rattle.integers.specs.Within.{Within}
 use Rattle.integers.specs.ListSum.{All}
 use Rattle.placement.specs.Placed.{placed}
@@ -23,10 +19,7 @@ use Rattle.placement.specs.Laws.PlacedPoints.{placed-length}
 use Rattle.accuracy.specs.Outline.{contourEdges}
 use Rattle.accuracy.specs.Laws.Contours.{contourEdges-length}
 use Rattle.accuracy.specs.Laws.Coordinates.{pointsOf-length}
-use Rattle.rasterize.specs.Added.{added}
 use Rattle.rasterize.specs.Ready.{Fits}
-use Rattle.rasterize.specs.Laws.Adding.{added-added, added-unique}
-use Rattle.rasterize.specs.Laws.Sums.{edgesPart}
 use Rattle.rasterize.specs.Laws.Fitting.{fits-le, fits-edges}
 use Rattle.tile.specs.declared.corrections.Change.{Change}
 use Rattle.tile.specs.declared.corrections.Change.the-variants.{Put, Take}
@@ -66,12 +59,3 @@ back-within Take = record { low = leZ-yes tt; high = leZ-yes tt }
 pub opposite-fits : (x : Change) → SFits w64 (pos 0 -ℤ signOf x)
 opposite-fits Put = sfits-lit tt
 opposite-fits Take = sfits-lit tt
-
--- ---- undone
-pub undone : (t : List ℤ) (sign : ℤ) (g : ℕ → ℤ) → added (added t (λ i. sign *ℤ g i)) (λ i. (pos 0 -ℤ sign) *ℤ g i) ≡ t
-undone t sign g =
-    added-added t (λ i. sign *ℤ g i) (λ i. (pos 0 -ℤ sign) *ℤ g i)
-    ∙ sym (added-unique t t (λ i. sign *ℤ g i +ℤ (pos 0 -ℤ sign) *ℤ g i) refl (λ i h. nothing (getD t i (pos 0)) (g i)))
-  where
-    nothing : (x y : ℤ) → x ≡ x +ℤ (sign *ℤ y +ℤ (pos 0 -ℤ sign) *ℤ y)
-    nothing x y = ring (x ∷ sign ∷ y ∷ []) (search read depth 40) tt

@@ -24,3 +24,5 @@ pub mod Held
 -- the contour of a call; what the call makes of a tile that holds contours
 pub mod AskedContour
 pub mod Kept
+-- a series of calls of any kind
+pub mod Runs

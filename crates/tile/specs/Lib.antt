@@ -25,6 +25,8 @@ pub mod PlacedOutline
 pub mod Corrections
 pub mod Holding
 pub mod Series
+pub mod CorrectingRefusals
+pub mod SeriesTheorem
 -- ---- 01's letters
 pub mod Letters
 -- ---- what inner functions answer

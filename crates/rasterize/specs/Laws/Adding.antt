@@ -7,13 +7,14 @@
 --   added-same                   additions that agree at every index of the table are the same
 --   added-added                  two additions are one, of their sum
 --   added-signed                 two additions with one sign are one, of the sum with that sign
+--   added-undone                 what is added with one sign and then with the other leaves the table
 --   added-nothing                where nothing is added, with whatever sign, the table stays
 --   added-zeros                  a table of coefficients, added once to an empty table, is the list of its entries
 use mathlib.Core.Path.{_≡_, refl, sym, _∙_, ap, subst}
 use mathlib.Core.List.{List, [], _∷_}
 use Prim.Native.Nat.{ℕ, _^_, _<_}
 use lib.ListN.{length, getD, replicate, length-replicate, getD-replicate}
-use lib.IntN.{ℤ, pos, _+ℤ_, _*ℤ_}
+use lib.IntN.{ℤ, pos, _+ℤ_, _-ℤ_, _*ℤ_}
 use Rattle.integers.specs.Ring.{read, ring, comb, _⊗_}
 use Rattle.haar.specs.Cells.{children}
 use Rattle.haar.specs.Table.{Coefficients}
@@ -61,6 +62,14 @@ module _ (t : List ℤ) (sign : ℤ) where
       added-added t (λ i. sign *ℤ f i) (λ i. sign *ℤ g i)
       ∙ added-same t (λ i. sign *ℤ f i +ℤ sign *ℤ g i) (λ i. sign *ℤ sum i)
       (λ i h. comb (sign ∷ f i ∷ g i ∷ sum i ∷ []) (sign ⊗ e i h) (search read depth 40) tt)
+
+  pub added-undone : (g : ℕ → ℤ) → added (added t (λ i. sign *ℤ g i)) (λ i. (pos 0 -ℤ sign) *ℤ g i) ≡ t
+  added-undone g =
+      added-added t (λ i. sign *ℤ g i) (λ i. (pos 0 -ℤ sign) *ℤ g i)
+      ∙ sym (added-unique t t (λ i. sign *ℤ g i +ℤ (pos 0 -ℤ sign) *ℤ g i) refl (λ i h. both (getD t i (pos 0)) (g i)))
+    where
+      both : (x y : ℤ) → x ≡ x +ℤ (sign *ℤ y +ℤ (pos 0 -ℤ sign) *ℤ y)
+      both x y = ring (x ∷ sign ∷ y ∷ []) (search read depth 40) tt
 
   pub added-nothing : (g : ℕ → ℤ) → ((i : ℕ) → g i ≡ pos 0) → added t (λ i. sign *ℤ g i) ≡ t
   added-nothing g e = sym (added-unique t t (λ i. sign *ℤ g i) refl (λ i h. plain (getD t i (pos 0)) ∙ ap (λ z. getD t i (pos 0) +ℤ sign *ℤ z) (sym (e i))))

@@ -4,6 +4,7 @@
 -- Main results
 --   Sums                         what is said of the sums
 --   holds-of-sums, sums-of-holds it is what `Holds` says
+--   sums-of-built                and what one accepted building leaves
 --   sums-within, sums-in-range   the table's entries are at most what the most edges add, and so in question 9's range
 use mathlib.Core.Path.{_≡_, sym, _∙_, ap, ap₂, subst, subst⁻¹}
 use mathlib.Core.Bool.{true}
@@ -19,7 +20,7 @@ use Rattle.integers.specs.Ring.{read, ring}
 use Rattle.integers.specs.ListSum.{total, tally, tally-perm}
 use Rattle.integers.specs.Tests.{every}
 use Rattle.integers.specs.Every.{every-perm}
-use Rattle.accuracy.specs.Outline.{contourEdges, outlineEdges}
+use Rattle.accuracy.specs.Outline.{edgeCount, contourEdges, outlineEdges}
 use Rattle.accuracy.specs.OutlineTable.{outlineTable}
 use Rattle.rasterize.specs.Added.{added, entryOf}
 use Rattle.rasterize.specs.Laws.Adding.{added-same, added-zeros}
@@ -117,20 +118,24 @@ holds-of-sums s = record {
   drawn = λ order p. is-drawn (reordered p s);
 }
 
--- ---- and back, by building in the order that they are in
+-- ---- and back, from one building that was accepted
+pub sums-of-built : (side : ℕ) (cs : List Contour) (t : Tile) (before : List ℤ) → buildRefusal side (coordinates cs) (countsOf cs) before ≡ 0
+    → t .table ≡ tableOf side (coordinates cs) (countsOf cs) → t .edges ≡ edgeCount (countsOf cs) → Sums side cs t
+sums-of-built side cs t before done table edges =
+    let y = written-accepted side cs before .0 done in
+    record {
+      is-side = y .0;
+      adds-up = record { table-is = table ∙ sym (parts-table side cs (y .0)); edges-is = edges ∙ edges-counted cs };
+      few = y .3;
+      right = y .2;
+    }
+
+-- by building in the order that they are in
 pub sums-of-holds : {side : ℕ} {cs : List Contour} {t : Tile} → Holds side cs t → Sums side cs t
 sums-of-holds {side} {cs} {t} h =
     let before = replicate (side * side) (pos 0) in
     let long = length-replicate (side * side) (pos 0) in
     let result = h .count-built cs (Perm·refl cs) before long in
     let done : buildRefusal side (coordinates cs) (countsOf cs) before ≡ 0 = ap (λ b. b .number) result in
-    let y = written-accepted side cs before .0 done in
-    record {
-      is-side = y .0;
-      adds-up = record {
-        table-is = sym (h .table-built cs (Perm·refl cs) before long) ∙ built-is side (coordinates cs) (countsOf cs) before done ∙ sym (parts-table side cs (y .0));
-        edges-is = sym (ap (λ b. b .edges) result) ∙ if-done _ 0 done ∙ edges-counted cs;
-      };
-      few = y .3;
-      right = y .2;
-    }
+    sums-of-built side cs t before done (sym (h .table-built cs (Perm·refl cs) before long) ∙ built-is side (coordinates cs) (countsOf cs) before done)
+    (sym (ap (λ b. b .edges) result) ∙ if-done _ 0 done)

@@ -4,6 +4,7 @@
 -- Main results
 --   isContour side c             questions 4 and 6 of one contour
 --   contours-back                the contours of the outline are those that it was made of
+--   back-points, coordinatesOf-length,
 --   points-back                  the coordinates of a contour's points are those that it was read from
 --   coordinates-back             the outline of contours that were read from an outline is that one
 --   edges-counted                its edge count
@@ -34,12 +35,12 @@ abbrev pub isContour : ℕ → Contour → Bool
 isContour side c = question4 (length c ∷ []) .answer && question6 side (coordinatesOf c) .answer
 
 -- ---- one contour
-back-points : (c : Contour) → pointsOf (coordinatesOf c) ≡ c
+pub back-points : (c : Contour) → pointsOf (coordinatesOf c) ≡ c
 unfolding pointsOf coordinatesOf
 back-points [] = refl
 back-points (p ∷ c) = ap (λ l. p ∷ l) (back-points c)
 
-coordinatesOf-length : (c : Contour) → length (coordinatesOf c) ≡ 2 * length c
+pub coordinatesOf-length : (c : Contour) → length (coordinatesOf c) ≡ 2 * length c
 unfolding coordinatesOf
 coordinatesOf-length [] = refl
 coordinatesOf-length (p ∷ c) = omega (arith, coordinatesOf-length c)

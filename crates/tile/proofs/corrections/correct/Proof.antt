@@ -20,6 +20,7 @@ use Rattle.accuracy.specs.Outline.{contourEdges}
 use Rattle.accuracy.specs.Tile.{OnTile}
 use Rattle.rasterize.specs.Added.{added}
 use Rattle.rasterize.specs.Ready.{Fits}
+use Rattle.rasterize.specs.Laws.Adding.{added-undone}
 use Rattle.rasterize.specs.Laws.Sums.{edgesPart}
 use Rattle.tile.specs.declared.corrections.Change.{Change}
 use Rattle.tile.specs.Questions.{Question, Yes, depthOf, firstNo, question9, question13, question9Twice, outlineQuestions}
@@ -28,7 +29,7 @@ use Rattle.tile.specs.Laws.FirstNo.{firstNo-zero}
 use Rattle.tile.specs.Laws.IfDone.{if-done, if-refused}
 use Rattle.tile.specs.Laws.AskedContour.{sign-within, few-edges, contour-on}
 use Rattle.tile.proofs.Asking.{first-refused, first-passed}
-use Rattle.tile.proofs.Correcting.{fits-contour, fits-again, opposite-fits, back-within, undone}
+use Rattle.tile.proofs.Correcting.{fits-contour, fits-again, opposite-fits, back-within}
 use Rattle.tile.proofs.corrections.correct.Statement.{statement}
 use Rattle.tile.proofs.corrections.correct.Tie as tie
 
@@ -206,7 +207,7 @@ returns-4 c =
     twice .add-contour2 .ensures
     ∙ ap₂ (λ k z. added (a .add-contour .last .0) (edgesPart k z es)) (depth-at (signed a) .depth-of .ensures) (back-is a)
     ∙ ap (λ l. added l (edgesPart (depthOf (side t)) (pos 0 -ℤ signOf (t .args .change)) es)) (added-is a)
-    ∙ undone (given t .table) (signOf (t .args .change)) (part (side t) (contourOf (call t))) in
+    ∙ added-undone (given t .table) (signOf (t .args .change)) (part (side t) (contourOf (call t))) in
     (number, (ap (λ l. tileOf l (given t .edges)) restored ∙ kept t number (λ z. absurd (omega (arith, z))), refl))
 
 -- ---- and else it is counted
