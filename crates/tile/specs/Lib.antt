@@ -27,6 +27,7 @@ pub mod Holding
 pub mod Series
 pub mod CorrectingRefusals
 pub mod SeriesTheorem
+pub mod NeverRefused
 -- ---- 01's letters
 pub mod Letters
 -- ---- what inner functions answer
