@@ -110,9 +110,28 @@ module _ (side : ℕ) (points : List ℤ) (count : ℕ) (placement : Placement) 
       let nine = and-means (question9 (t .table) .answer) (question9 (wouldLeave side k t) .answer) (λ e. e, λ e. e) (λ e. e, λ e. e) .0 (y .1 .1 .1 .1 .1 .1 .1 .1 .0) in
       let few = few-edges side k t (about-contour side k t y) in
       let long : length (wouldLeave side k t) ≡ side * side = added-length (t .table) _ ∙ question2-means side (t .table) .0 (y .1 .0) in
-      correcting-refusals side back u .accepted .1
-      (y .0, (question2-means side (u .table) .1 long, (y .1 .1 .0, (le-leb (0 + edgeCount (count ∷ [])) mostEdges (omega (arith, few)), (y .1 .1 .1 .1 .0, (y .1 .1 .1 .1 .1 .0, (y .1 .1 .1 .1 .1 .1 .0,
-      (le-leb count (t .edges + count) (omega arith), (ap₂ _&&_ (nine .1) (ap (λ l. question9 l .answer) restored ∙ nine .0), tt)))))))))
+      correcting-refusals side back u .accepted .1 (
+        y .0,
+        (
+          question2-means side (u .table) .1 long,
+          (
+            y .1 .1 .0,
+            (
+              le-leb (0 + edgeCount (count ∷ [])) mostEdges (omega (arith, few)),
+              (
+                y .1 .1 .1 .1 .0,
+                (
+                  y .1 .1 .1 .1 .1 .0,
+                  (
+                    y .1 .1 .1 .1 .1 .1 .0,
+                    (le-leb count (t .edges + count) (omega arith), (ap₂ _&&_ (nine .1) (ap (λ l. question9 l .answer) restored ∙ nine .0), tt)),
+                  ),
+                ),
+              ),
+            ),
+          ),
+        ),
+      )
 
   pub inverse : (correctRefusal side back (corrected side k t) ≡ 0) × (corrected side back (corrected side k t) ≡ t)
   inverse =

@@ -12,11 +12,19 @@ returns c =
     let s = c .before .before .before .before in
     let k = taking (s .args .points .now) (s .args .count) (s .args .placement) in
     let t = tileOf (s .args .table .now) (s .args .edges .now) in
-    let e = c .before .correct .ensures .1 .0 in
-    (c .before .correct .ensures .0, (ap (λ t. t .edges) e, (ap (λ t. t .table) e, (
-      λ cs others p h done. subst⁻¹ (Holds (s .args .side) others) e (holds-taken (s .args .side) k t done refl p h),
-      refl,
-    ))))
+    let e = c .before .correct .ensures .1 .0 in (
+      c .before .correct .ensures .0,
+      (
+        ap (λ t. t .edges) e,
+        (
+          ap (λ t. t .table) e,
+          (
+            λ cs others p h done. subst⁻¹ (Holds (s .args .side) others) e (holds-taken (s .args .side) k t done refl p h),
+            refl,
+          ),
+        ),
+      ),
+    )
 
 pub take-spec : {M : Type 1} → statement M
 take-spec = tie.close (tie.spec (λ c κs. search needs) (λ c. search needs) returns)

@@ -59,9 +59,10 @@ module _ (side : ℕ) (k : Call) (t : Tile) (yes : All Yes (contourQuestions sid
 
   pub contour-accepted : isContour side (contourOf k) ≡ true
   contour-accepted =
-      and-means (question4 (length (contourOf k) ∷ []) .answer) (question6 side (coordinatesOf (contourOf k)) .answer) (λ e. e, λ e. e) (λ e. e, λ e. e) .1
-      (ap (λ n. question4 (n ∷ []) .answer) contour-count ∙ yes .1 .1 .0,
-      ap (λ l. question6 side l .answer) (points-back (k .count) drawn coordinates-even) ∙ yes .1 .1 .1 .1 .1 .1 .0)
+      and-means (question4 (length (contourOf k) ∷ []) .answer) (question6 side (coordinatesOf (contourOf k)) .answer) (λ e. e, λ e. e) (λ e. e, λ e. e) .1 (
+        ap (λ n. question4 (n ∷ []) .answer) contour-count ∙ yes .1 .1 .0,
+        ap (λ l. question6 side l .answer) (points-back (k .count) drawn coordinates-even) ∙ yes .1 .1 .1 .1 .1 .1 .0,
+      )
 
   pub contour-on : All (OnTile (depthOf side)) (contourOf k)
   contour-on = points-on (depthOf side) drawn (on-side side drawn (yes .0) (yes .1 .1 .1 .1 .1 .1 .0))

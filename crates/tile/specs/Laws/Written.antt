@@ -113,5 +113,5 @@ written-accepted side cs before =
         subst (λ n. n ≤ mostEdges) (edges-counted cs) (few .0 (y .1 .1 .1 .0)),
       )),
       λ h. (let right = both .0 (sym (contours-asked side cs) ∙ h .2) in
-      all .1 (h .0, (h .1, (right .0, (few .1 (subst⁻¹ (λ n. n ≤ mostEdges) (edges-counted cs) (h .3)), (enough, (right .1, tt))))))),
+          all .1 (h .0, (h .1, (right .0, (few .1 (subst⁻¹ (λ n. n ≤ mostEdges) (edges-counted cs) (h .3)), (enough, (right .1, tt))))))),
     )
