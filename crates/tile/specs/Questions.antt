@@ -133,5 +133,5 @@ placedQuestions side points counts placement table =
 -- the same where so many edges are in the table already
 abbrev pub outlineQuestions : ℕ → List ℤ → List ℕ → Placement → ℕ → List ℤ → List Question
 outlineQuestions side points counts placement already table =
-    question1 side ∷ question2 side table ∷ question4 counts ∷ question5Beside already counts ∷ question3 points counts ∷ question12 placement points
-    ∷ question6 side (placed placement points) ∷ []
+    question1 side ∷ question2 side table ∷ question4 counts ∷ question5Beside already counts ∷ question3 points counts
+    ∷ question12 placement points ∷ question6 side (placed placement points) ∷ []

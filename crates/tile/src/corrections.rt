@@ -75,26 +75,28 @@ pub fn correct(
     ensures { λ _. ⌜ tileOf (now (table .exit)) (now (edges .exit)) ≡ corrected side (callOf change (now (points .entry)) count placement) (tileOf (now (table .entry)) (now (edges .entry))) ⌝ }
     ensures { λ _. ⌜ now (points .exit) ≡ now (points .entry) ⌝ }
 {
-    let kept = *edges;
+    let recorded = *edges;
     let counts = [count];
-    let already = already_in(change, kept);
+    let already = already_in(change, recorded);
     let number = outline_refusal(side, points, &counts, placement, already, table);
     if number != DONE {
         return number;
     }
-    if taken_out(change, count) > kept {
+    if taken_out(change, count) > recorded {
         return NO_RECORD;
     }
-    if !search_entries(table).within {
+    let before = search_entries(table);
+    if !before.within {
         return NO_RANGE;
     }
     let depth = depth_of(side);
     let sign = sign_of(change);
     rasterize::add_contour(table, points, placement, sign, depth);
-    if !search_entries(table).within {
+    let left = search_entries(table);
+    if !left.within {
         rasterize::add_contour(table, points, placement, -sign, depth);
         return NO_RANGE;
     }
-    *edges = edges_after(change, count, kept);
+    *edges = edges_after(change, count, recorded);
     DONE
 }
