@@ -94,7 +94,8 @@ pub fn correct(
     rasterize::add_contour(table, points, placement, sign, depth);
     let left = search_entries(table);
     if !left.within {
-        rasterize::add_contour(table, points, placement, -sign, depth);
+        let back = -sign;
+        rasterize::add_contour(table, points, placement, back, depth);
         return NO_RANGE;
     }
     *edges = edges_after(change, count, recorded);

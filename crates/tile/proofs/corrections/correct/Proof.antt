@@ -180,18 +180,20 @@ module _ (c : tie.Then4) where
   abbrev there : tie.After-add-contour
   there = found .before .before .before
 
-sub-add-contour : tie.Need-sub-add-contour
-sub-add-contour c = back-fits (there (c .before))
+sub-back : tie.Need-sub-back
+sub-back c = back-fits (there c)
 
 add-contour-requires-2 : tie.Need-add-contour-requires-2
 add-contour-requires-2 c κs =
     let a = there (c .before) in
-    let t = o a in (
+    let t = o a in
+    let sign = subst⁻¹ (Within (pos 1)) (sign-is (signed a)) (sign-within (t .args .change)) in
+    let opposite = subst⁻¹ (Within (pos 1)) (back-is a) (back-within (t .args .change)) in (
       subst⁻¹ (λ k. Fits (a .add-contour .last .0) k (length (call t .points) / 2)) (depth-at (signed a) .depth-of .ensures)
           (subst⁻¹ (λ l. Fits l (depthOf (side t)) (length (call t .points) / 2)) (added-is a)
           (fits-again (side t) (call t) (given t) (answers (signed a)) (in-range (depth-at (signed a) .before)))),
       subst⁻¹ (λ k. All (OnTile k) (contourOf (call t))) (depth-at (signed a) .depth-of .ensures) (contour-on (side t) (call t) (given t) (answers (signed a))),
-      subst⁻¹ (Within (pos 1)) (back-is a) (back-within (t .args .change)),
+      search (sign, opposite),
       answers (signed a) .1 .1 .1 .1 .1 .0,
     )
 
@@ -245,7 +247,7 @@ correct-spec =
     (λ c κs. search needs)
     add-contour-requires
     (λ c κs. search needs)
-    sub-add-contour
+    sub-back
     add-contour-requires-2
     (λ c. search needs)
     returns-4

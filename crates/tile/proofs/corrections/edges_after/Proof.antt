@@ -1,5 +1,5 @@
 -- By cases: question 5 bounds the sum, question 13 the difference.
-use mathlib.Core.Path.{_≡_, sym, ap, subst}
+use mathlib.Core.Path.{_≡_, ap, subst}
 use Prim.Native.Nat.{ℕ, _+_, _≤_}
 use native.Mathlib.Omega.{arith}
 use borrow.Author.Needs.{needs}
@@ -17,13 +17,15 @@ add-result c =
 
 sub-result : tie.Need-sub-result
 sub-result c =
-    let s = c .before .before in subst (λ (x : Change). takenOut x (s .args .count) ≤ s .args .edges) (c .enum-told2 .given .1) (s .pre .1)
+    let s = c .before .before in
+    let enough = subst (λ (x : Change). takenOut x (s .args .count) ≤ s .args .edges) (c .enum-told2 .given .1) (s .pre .1) in
+    omega (arith, enough)
 
 returns : tie.Need-returns
-returns c = let a = c .before .before .args in sym (ap (λ (x : Change). edgesAfter x (a .count) (a .edges)) (c .enum-told .given .1))
+returns c = let a = c .before .before .args in omega (arith, ap (λ (x : Change). edgesAfter x (a .count) (a .edges)) (c .enum-told .given .1))
 
 returns-2 : tie.Need-returns-2
-returns-2 c = let a = c .before .before .args in sym (ap (λ (x : Change). edgesAfter x (a .count) (a .edges)) (c .enum-told2 .given .1))
+returns-2 c = let a = c .before .before .args in omega (arith, ap (λ (x : Change). edgesAfter x (a .count) (a .edges)) (c .enum-told2 .given .1))
 
 pub edges-after-spec : {M : Type 1} → statement M
 edges-after-spec = tie.close (tie.spec (λ c. search needs) add-result (λ c. search needs) sub-result returns returns-2)
