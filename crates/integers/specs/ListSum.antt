@@ -1,7 +1,7 @@
 -- Sums over a list, and a property of every element.
 --
 -- Main results
---   all-of, all-map, all-append, all-take, all-drop, all-entry                   of `All P l`, that every element of l has the property P
+--   all-of, all-map, all-append, all-front, all-take, all-drop, all-entry        of `All P l`, that every element of l has the property P
 --   all-getD, getD-all, getD-each     past its end an entry of a list counts as the default: what holds of that too holds of every entry
 --   total-cong, total-add, total-scale, total-neg, total-append, total-const     as of any finite sum
 --   total-within, total-bounded       terms bounded each by its own bound are bounded by the bounds' sum; each by b, by as many times b
@@ -36,6 +36,10 @@ all-map f (a ∷ l) p = (f a (p .0), all-map f l (p .1))
 pub all-append : {A : Type 0} (P : A → Type 0) (k l : List A) → All P k → All P l → All P (k ++ l)
 all-append P [] l p q = q
 all-append P (a ∷ k) l p q = (p .0, all-append P k l (p .1) q)
+
+pub all-front : {A : Type 0} (P : A → Type 0) (k l : List A) → All P (k ++ l) → All P k
+all-front P [] l p = tt
+all-front P (a ∷ k) l p = (p .0, all-front P k l (p .1))
 
 pub all-take : {A : Type 0} (P : A → Type 0) (n : ℕ) (l : List A) → All P l → All P (take n l)
 all-take P zero l p = tt

@@ -6,7 +6,7 @@
 --   OneOf n l                                       n is an element, as a proposition
 -- Main results
 --   eqb-means, leb-means, ltb-means, leZ-means      equality and order
---   and-means, every-means                          both; of every element
+--   and-means, and-true-means, every-means          both; of every element
 --   between-means, within-means                     from low to high; from −b to b
 --   one-of-means                                    n is an element of l
 --   no-means                                        false exactly where the proposition does not hold
@@ -55,6 +55,9 @@ leZ-means a b = (λ e. leZ-true e, λ h. is-true (leZ a b) (h .le))
 pub and-means : (a b : Bool) {P Q : Type 0} → ((a ≡ true) ↔ P) → ((b ≡ true) ↔ Q) → ((a && b) ≡ true) ↔ (P × Q)
 and-means true b p q = (λ e. (p .0 refl, q .0 e), λ h. q .1 (h .1))
 and-means false b p q = (λ e. absurd (true≢false (sym e)), λ h. p .1 (h .0))
+
+pub and-true-means : (a b : Bool) → ((a && b) ≡ true) ↔ ((a ≡ true) × (b ≡ true))
+and-true-means a b = and-means a b (λ e. e, λ e. e) (λ e. e, λ e. e)
 
 pub every-means : {A : Type 0} (test : A → Bool) {P : A → Type 0} → ((a : A) → (test a ≡ true) ↔ P a) → (l : List A) → (every test l ≡ true) ↔ All P l
 every-means test p [] = (λ _. tt, λ _. refl)

@@ -4,7 +4,7 @@
 --   fits-contour, fits-again     there is room for its edges, and for taking them out again
 --   opposite-fits, back-within   the opposite of a sign is one
 use mathlib.Core.Path.{_≡_, sym, _∙_, ap}
-use Prim.Native.Nat.{ℕ, _+_, _/_, _≤_}
+use Prim.Native.Nat.{ℕ, _+_, _/_}
 use native.Mathlib.Omega.{arith}
 use lib.ListN.{length}
 use lib.IntN.{pos, _-ℤ_}
@@ -17,7 +17,6 @@ use Rattle.integers.specs.ListSum.{All}
 use Rattle.placement.specs.Placed.{placed}
 use Rattle.placement.specs.Laws.PlacedPoints.{placed-length}
 use Rattle.accuracy.specs.Outline.{contourEdges}
-use Rattle.accuracy.specs.Laws.Contours.{contourEdges-length}
 use Rattle.accuracy.specs.Laws.Coordinates.{pointsOf-length}
 use Rattle.rasterize.specs.Ready.{Fits}
 use Rattle.rasterize.specs.Laws.Fitting.{fits-le, fits-edges}
@@ -25,7 +24,7 @@ use Rattle.tile.specs.declared.corrections.Change.{Change}
 use Rattle.tile.specs.declared.corrections.Change.the-variants.{Put, Take}
 use Rattle.tile.specs.Questions.{Yes, depthOf, question9}
 use Rattle.tile.specs.Corrections.{Tile, Call, contourOf, signOf, wouldLeave, contourQuestions}
-use Rattle.tile.specs.Laws.AskedContour.{sign-within, contour-count, few-edges, contour-edges-on}
+use Rattle.tile.specs.Laws.AskedContour.{sign-within, contour-count, few-edges, contour-edges-on, edges-counted}
 use Rattle.tile.proofs.Room.{in-range-fits}
 
 -- ---- room
@@ -37,7 +36,7 @@ module _ (side : ℕ) (k : Call) (t : Tile) (yes : All Yes (contourQuestions sid
   counted : n ≡ k .count
   counted =
       ap (λ m. m / 2) (sym (placed-length (k .placement) (k .points))) ∙ sym (pointsOf-length (placed (k .placement) (k .points)))
-      ∙ contour-count side k t yes
+      ∙ contour-count k (yes .1 .1 .1 .1 .0)
 
   fits-twice : Fits (t .table) (depthOf side) (n + n)
   fits-twice = in-range-fits side (n + n) (t .table) (yes .0) (yes .1 .0) yes9 (omega (arith, counted, few-edges side k t yes))
@@ -48,7 +47,7 @@ module _ (side : ℕ) (k : Call) (t : Tile) (yes : All Yes (contourQuestions sid
   pub fits-again : Fits (wouldLeave side k t) (depthOf side) n
   fits-again =
       let es = contourEdges (contourOf k) in
-      let same : length es ≡ n = contourEdges-length (contourOf k) ∙ contour-count side k t yes ∙ sym counted in
+      let same : length es ≡ n = edges-counted side k t yes ∙ sym counted in
       fits-edges (sign-within (k .change)) es n (contour-edges-on side k t yes) (fits-le (omega (arith, same)) fits-twice)
 
 -- ---- the sign

@@ -8,8 +8,9 @@
 --   part side c i                what a contour adds to entry i
 --   wouldLeave side k t          the table that a call would leave
 --   alreadyIn, takenOut          what questions 5 and 13 read of the record and of the count
---   contourQuestions             what a call asks about its contour: 1, 2, 4, 5, 3, 12, 6
---   correctingQuestions          and then 13 and 9
+--   contourQuestions             what a call asks first, about its contour: 1, 2, 4, 5, 3, 12, 6
+--   tileQuestions                and then, about the tile: 13, 9
+--   correctingQuestions          all of them
 --   correctRefusal               the number that it answers
 --   edgesAfter, corrected        the record and the tile afterwards
 --   tileOf, callOf, putting,
@@ -74,10 +75,12 @@ takenOut Take count = count
 abbrev pub contourQuestions : ℕ → Call → Tile → List Question
 contourQuestions side k t = outlineQuestions side (k .points) (k .count ∷ []) (k .placement) (alreadyIn (k .change) (t .edges)) (t .table)
 
--- "13, after 6 and before 9"
+-- and about the tile: "13, after 6 and before 9"
+abbrev pub tileQuestions : ℕ → Call → Tile → List Question
+tileQuestions side k t = question13 (takenOut (k .change) (k .count)) (t .edges) ∷ question9Twice (t .table) (wouldLeave side k t) ∷ []
+
 abbrev pub correctingQuestions : ℕ → Call → Tile → List Question
-correctingQuestions side k t =
-    contourQuestions side k t ++ (question13 (takenOut (k .change) (k .count)) (t .edges) ∷ question9Twice (t .table) (wouldLeave side k t) ∷ [])
+correctingQuestions side k t = contourQuestions side k t ++ tileQuestions side k t
 
 -- ---- the outcome
 abbrev pub correctRefusal : ℕ → Call → Tile → ℕ

@@ -11,35 +11,35 @@ use mathlib.Core.Path.{_≡_, refl, sym, _∙_, ap, ap₂, subst, subst⁻¹}
 use mathlib.Core.Bool.{true, false, _&&_, true≢false}
 use mathlib.Core.Logic.{_≢_}
 use mathlib.Core.List.{List, [], _∷_, _++_, Perm, Perm·refl}
-use Prim.Native.Nat.{ℕ, _+_, _*_, _/_, _≤_}
+use Prim.Native.Nat.{ℕ, _+_, _*_}
 use native.Mathlib.Omega.{arith}
 use borrow.Author.Tests.{le-leb}
 use lib.ListN.{length, replicate, length-replicate}
 use lib.IntN.{ℤ, pos}
 use lib.Ieee.{fin}
 use Rattle.integers.specs.Units.{mostEdges}
-use Rattle.integers.specs.ListSum.{All, tally, tally-perm}
-use Rattle.integers.specs.Tests.{every, and-means}
+use Rattle.integers.specs.ListSum.{All, all-append, all-front, tally, tally-perm}
+use Rattle.integers.specs.Tests.{every, and-true-means}
 use Rattle.integers.specs.Every.{every-perm}
 use Rattle.placement.specs.declared.Placement.the-variants.{None, Shift}
 use Rattle.integers.specs.Rounding.{roundHalfUp, floor}
 use Rattle.placement.specs.Parts.{partsOf, isMultiple}
 use Rattle.placement.specs.Placed.{placed}
-use Rattle.placement.specs.Laws.PlacedPoints.{placed-none, placed-length}
+use Rattle.placement.specs.Laws.PlacedPoints.{placed-none}
 use Rattle.accuracy.specs.Outline.{pointsOf, edgeCount}
-use Rattle.accuracy.specs.Laws.Coordinates.{pointsOf-length}
 use Rattle.rasterize.specs.Laws.Adding.{added-length}
 use Rattle.tile.specs.declared.corrections.Change.the-variants.{Put, Take}
 use Rattle.tile.specs.Questions.{Yes, question1, question2, question3, question4, question5Beside, question6, question9Twice, question12, question13}
 use Rattle.tile.specs.Refusals.{question2-means, question3-means}
-use Rattle.tile.specs.Corrections.{Tile, Call, Contour, putting, taking, contourOf, alreadyIn, takenOut, wouldLeave, contourQuestions, correctRefusal, corrected}
+use Rattle.tile.specs.Corrections.{Tile, Call, Contour, putting, taking, contourOf, alreadyIn, takenOut, wouldLeave, contourQuestions, tileQuestions, correctRefusal, corrected}
 use Rattle.tile.specs.Holding.{coordinatesOf, emptyTile, Holds}
-use Rattle.tile.specs.Series.{Lawful, none, refused, put, taken, Series}
+use Rattle.tile.specs.Series.{none, refused, put, taken, Series}
 use Rattle.tile.specs.CorrectingRefusals.{correcting-refusals}
 use Rattle.tile.specs.SeriesTheorem.{holds-empty}
-use Rattle.tile.specs.Laws.IfDone.{if-refused}
-use Rattle.tile.specs.Laws.Written.{isContour, back-points, coordinatesOf-length, points-back}
+use Rattle.tile.specs.Laws.FirstNo.{decided-yes, decided-no}
+use Rattle.tile.specs.Laws.Written.{isContour, back-points, coordinatesOf-length}
 use Rattle.tile.specs.Laws.Held.{sums-of-holds, sums-in-range}
+use Rattle.tile.specs.Laws.AskedContour.{contour-count, contour-coordinates}
 use Rattle.tile.specs.Laws.Kept.{holds-put, left-in-range}
 
 -- ---- in a tile that holds contours
@@ -56,54 +56,48 @@ module _ {side : ℕ} {cs : List Contour} {t : Tile} (h : Holds side cs t) where
 
   pub never-9 : (k : Call) → correctRefusal side k t ≢ 9
   never-9 k n =
+      let nine = question9Twice (t .table) (wouldLeave side k t) in
+      let thirteen = question13 (takenOut (k .change) (k .count)) (t .edges) ∷ [] in
+      let asked = contourQuestions side k t ++ thirteen in
       let d = correcting-refusals side k t .refused9 .0 n in
-      true≢false
-      (sym (yes9 k (d .0, (d .1 .0, (d .1 .1 .0, (d .1 .1 .1 .0, (d .1 .1 .1 .1 .0, (d .1 .1 .1 .1 .1 .0, (d .1 .1 .1 .1 .1 .1 .0, tt))))))))
-      ∙ d .1 .1 .1 .1 .1 .1 .1 .1)
+      true≢false (sym (yes9 k (all-front Yes (contourQuestions side k t) thirteen (decided-yes asked nine d))) ∙ decided-no asked nine d)
 
-  -- all but the questions about the call itself are answered yes
+  -- questions 13 and 9 come after those about the contour
+  accepted-by : (k : Call) → All Yes (contourQuestions side k t) → Yes (question13 (takenOut (k .change) (k .count)) (t .edges)) → correctRefusal side k t ≡ 0
+  accepted-by k y out = correcting-refusals side k t .accepted .1 (all-append Yes (contourQuestions side k t) (tileQuestions side k t) y (out, (yes9 k y, tt)))
+
+  -- what is left to ask is about the call itself, and whether there are too many edges
   pub put-accepted : (k : Call) → k .change ≡ Put → Yes (question4 (k .count ∷ [])) → Yes (question5Beside (t .edges) (k .count ∷ []))
       → Yes (question3 (k .points) (k .count ∷ [])) → Yes (question12 (k .placement) (k .points)) → Yes (question6 side (placed (k .placement) (k .points)))
       → correctRefusal side k t ≡ 0
   put-accepted k e yes4 yes5 yes3 yes12 yes6 =
       let few = ap (λ c. question5Beside (alreadyIn c (t .edges)) (k .count ∷ []) .answer) e ∙ yes5 in
       let out = ap (λ c. question13 (takenOut c (k .count)) (t .edges) .answer) e ∙ le-leb 0 (t .edges) (omega arith) in
-      correcting-refusals side k t .accepted .1
-      (yes1, (yes2, (yes4, (few, (yes3, (yes12, (yes6, (out, (yes9 k (yes1, (yes2, (yes4, (few, (yes3, (yes12, (yes6, tt))))))), tt)))))))))
+      accepted-by k (yes1, (yes2, (yes4, (few, (yes3, (yes12, (yes6, tt))))))) out
 
-  -- A contour that is in: only the call's form is left to ask, that there are two coordinates for each point, and that its placement is one.
+  -- A contour that is in: what is left to ask is only that there are two coordinates for each point, and that the placement is one.
   module _ (k : Call) (e : k .change ≡ Take) {others : List Contour} (p : Perm cs (contourOf k ∷ others)) (yes3 : Yes (question3 (k .points) (k .count ∷ [])))
       (yes12 : Yes (question12 (k .placement) (k .points))) where
-    abbrev drawn : List ℤ
-    drawn = placed (k .placement) (k .points)
-
-    even : length drawn ≡ 2 * k .count
-    unfolding tally
-    even = placed-length (k .placement) (k .points) ∙ question3-means (k .points) (k .count ∷ []) .0 yes3 ∙ omega arith
-
-    count-is : length (contourOf k) ≡ k .count
-    count-is = pointsOf-length drawn ∙ ap (λ n. n / 2) even ∙ omega arith
-
     counted : tally length cs ≡ k .count + tally length others
     unfolding tally
-    counted = tally-perm length p ∙ ap (λ n. n + tally length others) count-is
+    counted = tally-perm length p ∙ ap (λ n. n + tally length others) (contour-count k yes3)
 
-    right : (question4 (length (contourOf k) ∷ []) .answer ≡ true) × (question6 side (coordinatesOf (contourOf k)) .answer ≡ true)
+    right : Yes (question4 (length (contourOf k) ∷ [])) × Yes (question6 side (coordinatesOf (contourOf k)))
     right =
         let all : every (isContour side) (contourOf k ∷ others) ≡ true = sym (every-perm (isContour side) p) ∙ sums-of-holds h .right in
-        let this = and-means (isContour side (contourOf k)) (every (isContour side) others) (λ e. e, λ e. e) (λ e. e, λ e. e) .0 all .0 in
-        and-means (question4 (length (contourOf k) ∷ []) .answer) (question6 side (coordinatesOf (contourOf k)) .answer) (λ e. e, λ e. e) (λ e. e, λ e. e) .0 this
+        and-true-means (question4 (length (contourOf k) ∷ []) .answer) (question6 side (coordinatesOf (contourOf k)) .answer) .0
+        (and-true-means (isContour side (contourOf k)) (every (isContour side) others) .0 all .0)
 
     pub take-accepted : correctRefusal side k t ≡ 0
     unfolding tally
     take-accepted =
         let s = sums-of-holds h in
-        let yes4 = ap (λ n. question4 (n ∷ []) .answer) (sym count-is) ∙ right .0 in
-        let yes6 = ap (λ l. question6 side l .answer) (sym (points-back (k .count) drawn even)) ∙ right .1 in
-        let few = ap (λ c. question5Beside (alreadyIn c (t .edges)) (k .count ∷ []) .answer) e ∙ le-leb (0 + edgeCount (k .count ∷ [])) mostEdges (omega (arith, s .few, counted)) in
+        let yes4 = ap (λ n. question4 (n ∷ []) .answer) (sym (contour-count k yes3)) ∙ right .0 in
+        let yes6 = ap (λ l. question6 side l .answer) (sym (contour-coordinates k yes3)) ∙ right .1 in
+        let few = ap (λ c. question5Beside (alreadyIn c (t .edges)) (k .count ∷ []) .answer) e
+        ∙ le-leb (0 + edgeCount (k .count ∷ [])) mostEdges (omega (arith, s .few, counted)) in
         let out = ap (λ c. question13 (takenOut c (k .count)) (t .edges) .answer) e ∙ le-leb (k .count) (t .edges) (omega (arith, s .adds-up .edges-is, counted)) in
-        correcting-refusals side k t .accepted .1
-        (yes1, (yes2, (yes4, (few, (yes3, (yes12, (yes6, (out, (yes9 k (yes1, (yes2, (yes4, (few, (yes3, (yes12, (yes6, tt))))))), tt)))))))))
+        accepted-by k (yes1, (yes2, (yes4, (few, (yes3, (yes12, (yes6, tt))))))) out
 
   -- whatever placement it was put in with
   pub take-as-it-lies : (c : Contour) {others : List Contour} → Perm cs (c ∷ others) → correctRefusal side (taking (coordinatesOf c) (length c) None) t ≡ 0

@@ -5,44 +5,37 @@
 --   holds-placed                 where a series may begin: the empty tile, and what building leaves, without and with a placement
 --   series, series-from          after a series from the empty tile, or from one that holds contours, the tile holds what remains
 --   inverse                      "taking out is its inverse": of any tile, whatever it holds
-use mathlib.Core.Path.{_≡_, refl, sym, _∙_, ap, ap₂, subst, subst⁻¹}
-use mathlib.Core.Bool.{true, _&&_, true≢false}
-use mathlib.Core.Logic.{_≢_}
-use mathlib.Core.List.{List, [], _∷_, _++_, Perm, Perm·refl}
-use Prim.Native.Nat.{ℕ, _+_, _-_, _*_, _/_, _≤_}
+use mathlib.Core.Path.{_≡_, refl, sym, _∙_, ap, ap₂, subst⁻¹}
+use mathlib.Core.Bool.{_&&_}
+use mathlib.Core.List.{List, [], _∷_}
+use Prim.Native.Nat.{ℕ, _+_, _-_, _*_}
 use native.Mathlib.Omega.{arith}
 use borrow.Author.Tests.{le-leb}
-use lib.ListN.{length, replicate, length-replicate}
+use lib.ListN.{length}
 use lib.IntN.{ℤ, pos}
 use Rattle.integers.specs.Units.{mostEdges}
-use Rattle.integers.specs.ListSum.{All, total, tally, tally-perm}
-use Rattle.integers.specs.Tests.{every, and-means}
-use Rattle.integers.specs.Every.{every-perm}
+use Rattle.integers.specs.ListSum.{tally}
+use Rattle.integers.specs.Tests.{and-true-means}
 use Rattle.placement.specs.declared.Placement.{Placement}
-use Rattle.placement.specs.declared.Placement.the-variants.{None}
 use Rattle.placement.specs.Placed.{placed}
-use Rattle.placement.specs.Laws.PlacedPoints.{placed-none, placed-length}
-use Rattle.accuracy.specs.Outline.{pointsOf, contoursOf, edgeCount}
-use Rattle.accuracy.specs.Laws.Coordinates.{pointsOf-length}
+use Rattle.accuracy.specs.Outline.{contoursOf, edgeCount}
 use Rattle.rasterize.specs.Laws.Adding.{added-length, added-undone}
-use Rattle.tile.specs.declared.corrections.Change.{Change}
-use Rattle.tile.specs.declared.corrections.Change.the-variants.{Put, Take}
-use Rattle.tile.specs.Questions.{Yes, question1, question2, question3, question4, question5Beside, question6, question9, question9Twice, question12, question13}
+use Rattle.tile.specs.Questions.{Yes, question1, question9, question12}
 use Rattle.tile.specs.Outcomes.{tableOf, buildRefusal, buildResult, buildTable, placedRefusal, placedResult, placedTable}
-use Rattle.tile.specs.Refusals.{question2-means, question3-means, placed-refusals}
+use Rattle.tile.specs.Refusals.{question2-means, placed-refusals}
 use Rattle.tile.specs.PlacedOutline.{placed-number, placed-as-built}
-use Rattle.tile.specs.Corrections.{Tile, Call, Contour, tileOf, callOf, putting, taking, contourOf, part, signOf, alreadyIn, takenOut, wouldLeave, edgesAfter, contourQuestions, correctRefusal, corrected}
-use Rattle.tile.specs.Holding.{coordinatesOf, coordinates, countsOf, emptyTile, Holds}
-use Rattle.tile.specs.Series.{run, Lawful, none, refused, put, taken, corrections, Series}
+use Rattle.tile.specs.Corrections.{Tile, Call, Contour, tileOf, putting, taking, contourOf, part, wouldLeave, correctRefusal, corrected}
+use Rattle.tile.specs.Holding.{coordinates, countsOf, emptyTile, Holds}
+use Rattle.tile.specs.Series.{run, corrections, Series}
 use Rattle.tile.specs.CorrectingRefusals.{correcting-refusals}
 use Rattle.tile.specs.Laws.IfDone.{if-done, if-refused}
 use Rattle.tile.specs.Laws.Accepted.{accepted}
 use Rattle.tile.specs.Laws.BuiltTable.{built-is}
-use Rattle.tile.specs.Laws.Written.{isContour, back-points, coordinatesOf-length, points-back, coordinates-back}
+use Rattle.tile.specs.Laws.Written.{coordinates-back}
 use Rattle.tile.specs.Laws.AddingUp.{adds-up-none}
-use Rattle.tile.specs.Laws.Held.{Sums, holds-of-sums, sums-of-built, sums-of-holds, sums-in-range}
-use Rattle.tile.specs.Laws.AskedContour.{contour-count, few-edges}
-use Rattle.tile.specs.Laws.Kept.{accepted-questions, about-contour, holds-put, holds-taken, left-in-range}
+use Rattle.tile.specs.Laws.Held.{holds-of-sums, sums-of-built}
+use Rattle.tile.specs.Laws.AskedContour.{few-edges}
+use Rattle.tile.specs.Laws.Kept.{accepted-questions, about-contour, holds-put, holds-taken}
 use Rattle.tile.specs.Laws.Runs.{Keeps, run-holds}
 
 -- ---- where a series may begin
@@ -107,7 +100,7 @@ module _ (side : ℕ) (points : List ℤ) (count : ℕ) (placement : Placement) 
   unfolding tally
   back-accepted =
       let y = accepted-questions side k t done in
-      let nine = and-means (question9 (t .table) .answer) (question9 (wouldLeave side k t) .answer) (λ e. e, λ e. e) (λ e. e, λ e. e) .0 (y .1 .1 .1 .1 .1 .1 .1 .1 .0) in
+      let nine = and-true-means (question9 (t .table) .answer) (question9 (wouldLeave side k t) .answer) .0 (y .1 .1 .1 .1 .1 .1 .1 .1 .0) in
       let few = few-edges side k t (about-contour side k t y) in
       let long : length (wouldLeave side k t) ≡ side * side = added-length (t .table) _ ∙ question2-means side (t .table) .0 (y .1 .0) in
       correcting-refusals side back u .accepted .1 (

@@ -4,6 +4,7 @@
 --   apart                        the numbers are above 0, and no two are the same
 --   firstNo-zero                 the answer is 0 exactly where every question is answered yes
 --   firstNo-at                   and a question's number exactly where it is the first to be answered no
+--   decided-yes, decided-no      the questions before it are then answered yes, and it is answered no
 --   EachNumber, each-number      both of them, of every question of a list
 --   firstNo-among                no other number is answered
 use mathlib.Core.Path.{_≡_, refl, sym, _∙_, subst, subst⁻¹}
@@ -14,7 +15,7 @@ use Prim.Native.Nat.{ℕ}
 use lib.Dec.{T, T-not, eqb, eqb-refl}
 use Rattle.integers.specs.ListSum.{All}
 use Rattle.integers.specs.Tests.{every, OneOf}
-use Rattle.tile.specs.Questions.{Yes, DecidedBy, Question, firstNo}
+use Rattle.tile.specs.Questions.{Yes, No, DecidedBy, Question, firstNo}
 
 -- ---- a test of the numbers alone, so that for a given list of questions it is computed
 abbrev unlike : ℕ → List Question → Bool
@@ -77,6 +78,14 @@ pub firstNo-at : (before : List Question) (q : Question) (after : List Question)
 firstNo-at [] q after t = let p = first q after t in cond-here (q .answer) (firstNo-new (q .number) after (p .nonzero) (p .new))
 firstNo-at (b ∷ before) q after t =
     let p = first b (before ++ (q ∷ after)) t in cond-on (b .answer) (unlike-at (b .number) before q after (p .new)) (firstNo-at before q after (p .rest))
+
+pub decided-yes : (before : List Question) (q : Question) → DecidedBy before q → All Yes before
+decided-yes [] q d = tt
+decided-yes (b ∷ before) q d = (d .0, decided-yes before q (d .1))
+
+pub decided-no : (before : List Question) (q : Question) → DecidedBy before q → No q
+decided-no [] q d = d
+decided-no (b ∷ before) q d = decided-no before q (d .1)
 
 -- What the number n says of each question of a list, and of all. The questions `before` come before the list.
 abbrev pub EachNumber : ℕ → List Question → List Question → Type 0

@@ -4,26 +4,26 @@
 --   corrected-is                 the tile that such a call leaves
 --   holds-put, holds-taken       what it holds
 --   left-in-range                the table that a call would leave is in question 9's range
-use mathlib.Core.Path.{_≡_, refl, sym, _∙_, ap, ap₂, subst, subst⁻¹}
+use mathlib.Core.Path.{_≡_, refl, sym, _∙_, ap₂, subst, subst⁻¹}
 use mathlib.Core.Bool.{true, _&&_}
-use mathlib.Core.List.{List, [], _∷_, _++_, Perm}
-use Prim.Native.Nat.{ℕ, _+_, _-_, _*_, _<_, _≤_}
+use mathlib.Core.List.{List, _∷_, Perm}
+use Prim.Native.Nat.{ℕ, _+_, _*_, _<_, _≤_}
 use native.Mathlib.Omega.{arith}
 use lib.Dec.{lit≤}
-use lib.ListN.{length, getD}
-use lib.IntN.{ℤ, pos, _+ℤ_, _*ℤ_}
+use lib.ListN.{length}
+use lib.IntN.{ℤ, pos, _*ℤ_}
 use Rattle.integers.specs.Units.{mostEdges, entryLimit, builtEntryLimit}
 use Rattle.integers.specs.Order.{pos-≤ℤ}
 use Rattle.integers.specs.Within.{Within, within-is, within-le, within-zero, within-add}
-use Rattle.integers.specs.ListSum.{All, getD-each, tally, tally-perm}
-use Rattle.integers.specs.Tests.{every, and-means}
+use Rattle.integers.specs.ListSum.{All, all-front, getD-each, tally, tally-perm}
+use Rattle.integers.specs.Tests.{every, and-true-means}
 use Rattle.integers.specs.Every.{every-perm}
 use Rattle.rasterize.specs.Added.{added}
 use Rattle.rasterize.specs.Laws.Adding.{added-length, added-entry}
 use Rattle.tile.specs.declared.corrections.Change.{Change}
 use Rattle.tile.specs.declared.corrections.Change.the-variants.{Put, Take}
 use Rattle.tile.specs.Questions.{Yes, question9}
-use Rattle.tile.specs.Corrections.{Tile, Call, Contour, tileOf, contourOf, part, signOf, alreadyIn, wouldLeave, edgesAfter, contourQuestions, correctingQuestions, correctRefusal, corrected}
+use Rattle.tile.specs.Corrections.{Tile, Call, Contour, tileOf, contourOf, part, signOf, alreadyIn, wouldLeave, edgesAfter, contourQuestions, tileQuestions, correctingQuestions, correctRefusal, corrected}
 use Rattle.tile.specs.Holding.{Holds}
 use Rattle.tile.specs.Laws.IfDone.{if-done}
 use Rattle.tile.specs.Laws.FirstNo.{firstNo-zero}
@@ -38,8 +38,7 @@ pub accepted-questions : (side : ℕ) (k : Call) (t : Tile) → correctRefusal s
 accepted-questions side k t done = firstNo-zero (correctingQuestions side k t) tt .0 done
 
 pub about-contour : (side : ℕ) (k : Call) (t : Tile) → All Yes (correctingQuestions side k t) → All Yes (contourQuestions side k t)
-about-contour side k t y =
-    (y .0, (y .1 .0, (y .1 .1 .0, (y .1 .1 .1 .0, (y .1 .1 .1 .1 .0, (y .1 .1 .1 .1 .1 .0, (y .1 .1 .1 .1 .1 .1 .0, tt)))))))
+about-contour side k t y = all-front Yes (contourQuestions side k t) (tileQuestions side k t) y
 
 module _ (side : ℕ) (k : Call) (t : Tile) (done : correctRefusal side k t ≡ 0) where
   yes : All Yes (contourQuestions side k t)
@@ -50,7 +49,7 @@ module _ (side : ℕ) (k : Call) (t : Tile) (done : correctRefusal side k t ≡ 
       → corrected side k t ≡ tileOf (added (t .table) (λ i. signOf c *ℤ part side (contourOf k) i)) (edgesAfter c (length (contourOf k)) (t .edges))
   corrected-is c e =
       if-done _ t done
-      ∙ ap₂ (λ c n. tileOf (added (t .table) (λ i. signOf c *ℤ part side (contourOf k) i)) (edgesAfter c n (t .edges))) e (sym (contour-count side k t yes))
+      ∙ ap₂ (λ c n. tileOf (added (t .table) (λ i. signOf c *ℤ part side (contourOf k) i)) (edgesAfter c n (t .edges))) e (sym (contour-count k (yes .1 .1 .1 .1 .0)))
 
   pub holds-put : k .change ≡ Put → {cs : List Contour} → Holds side cs t → Holds side (contourOf k ∷ cs) (corrected side k t)
   unfolding tally
@@ -62,7 +61,7 @@ module _ (side : ℕ) (k : Call) (t : Tile) (done : correctRefusal side k t ≡ 
         is-side = s .is-side;
         adds-up = subst⁻¹ (AddsUp (side * side) (part side) length (contourOf k ∷ cs)) (corrected-is Put e)
             (adds-up-put (side * side) (part side) length (contourOf k) (s .adds-up));
-        few = omega (arith, room, s .adds-up .edges-is, contour-count side k t yes);
+        few = omega (arith, room, s .adds-up .edges-is, contour-count k (yes .1 .1 .1 .1 .0));
         right = ap₂ _&&_ (contour-accepted side k t yes) (s .right);
       })
 
@@ -77,7 +76,7 @@ module _ (side : ℕ) (k : Call) (t : Tile) (done : correctRefusal side k t ≡ 
         adds-up = subst⁻¹ (AddsUp (side * side) (part side) length others) (corrected-is Take e)
             (adds-up-taken (side * side) (part side) length (contourOf k) p (s .adds-up));
         few = omega (arith, s .few, tally-perm length p);
-        right = and-means (isContour side (contourOf k)) (every (isContour side) others) (λ e. e, λ e. e) (λ e. e, λ e. e) .0 all .1;
+        right = and-true-means (isContour side (contourOf k)) (every (isContour side) others) .0 all .1;
       })
 
 -- ---- the tile's entries and the contour's are each at most what the most edges add

@@ -11,7 +11,7 @@
 --   written-accepted             when building accepts it
 use mathlib.Core.Path.{_≡_, refl, sym, _∙_, ap, ap₂, subst, subst⁻¹}
 use mathlib.Core.Logic.{_↔_}
-use mathlib.Core.Bool.{Bool, true, false, _&&_}
+use mathlib.Core.Bool.{Bool, true, _&&_}
 use mathlib.Core.List.{List, [], _∷_, _++_}
 use Prim.Native.Nat.{ℕ, _+_, _-_, _*_, _≤_}
 use native.Mathlib.Omega.{arith}
@@ -21,9 +21,9 @@ use lib.Seq.{take-at, drop-append-seam, length-take-le}
 use lib.IntN.{ℤ, pos}
 use Rattle.integers.specs.Units.{stepsPerPixel, fewestPoints, mostPoints, mostEdges}
 use Rattle.integers.specs.ListSum.{tally}
-use Rattle.integers.specs.Tests.{every, between, and-means}
+use Rattle.integers.specs.Tests.{every, between, and-true-means}
 use Rattle.integers.specs.Every.{every-append, every-both}
-use Rattle.accuracy.specs.Outline.{Point, pointsOf, contoursOf, edgeCount}
+use Rattle.accuracy.specs.Outline.{pointsOf, contoursOf, edgeCount}
 use Rattle.accuracy.specs.Laws.Coordinates.{taken-points}
 use Rattle.tile.specs.Questions.{Yes, question1, question2, question4, question6}
 use Rattle.tile.specs.Outcomes.{buildRefusal}
@@ -105,7 +105,7 @@ written-accepted side cs before =
     let all = building-refusals side (coordinates cs) (countsOf cs) before .accepted in
     let few = question5-means (countsOf cs) in
     let enough = question3-means (coordinates cs) (countsOf cs) .1 (coordinates-length cs) in
-    let both = and-means (question4 (countsOf cs) .answer) (question6 side (coordinates cs) .answer) (λ e. e, λ e. e) (λ e. e, λ e. e) in (
+    let both = and-true-means (question4 (countsOf cs) .answer) (question6 side (coordinates cs) .answer) in (
       λ done. (let y = all .0 done in (
         y .0,
         y .1 .0,

@@ -1,19 +1,18 @@
 -- A refused call leaves everything as it was, also where the contour was in already: it is undone. Else the contour is in, and counted.
 use mathlib.Core.Path.{_≡_, refl, sym, _∙_, ap, ap₂, subst, subst⁻¹}
-use mathlib.Core.Bool.{Bool, true, false, _&&_, cond}
+use mathlib.Core.Bool.{Bool, false, _&&_, cond}
 use mathlib.Core.Logic.{_≢_}
-use mathlib.Core.List.{List, [], _∷_, _++_}
-use Prim.Native.Nat.{ℕ, _+_, _/_, _<_, _≤_}
+use mathlib.Core.List.{List, [], _∷_}
+use Prim.Native.Nat.{ℕ, _/_, _<_, _≤_}
 use native.Mathlib.Omega.{arith}
 use lib.ListN.{length}
-use lib.IntN.{ℤ, pos, _-ℤ_}
+use lib.IntN.{pos, _-ℤ_}
 use mir.Syntax.{w64}
 use mir.Val.{SFits}
 use mir.Facts.{toZ-ofZ}
 use borrow.Author.Needs.{needs}
 use borrow.Author.Tests.{le-leb, lt-leb, not-true, not-false}
 use Rattle.integers.specs.Bits.{back, result-is}
-use Rattle.integers.specs.Units.{mostEdges}
 use Rattle.integers.specs.Within.{Within}
 use Rattle.integers.specs.ListSum.{All}
 use Rattle.accuracy.specs.Outline.{contourEdges}
@@ -22,9 +21,8 @@ use Rattle.rasterize.specs.Added.{added}
 use Rattle.rasterize.specs.Ready.{Fits}
 use Rattle.rasterize.specs.Laws.Adding.{added-undone}
 use Rattle.rasterize.specs.Laws.Sums.{edgesPart}
-use Rattle.tile.specs.declared.corrections.Change.{Change}
 use Rattle.tile.specs.Questions.{Question, Yes, depthOf, firstNo, question9, question13, question9Twice, outlineQuestions}
-use Rattle.tile.specs.Corrections.{Call, Tile, callOf, tileOf, contourOf, part, signOf, takenOut, wouldLeave, contourQuestions, correctRefusal, corrected}
+use Rattle.tile.specs.Corrections.{Call, Tile, callOf, tileOf, contourOf, part, signOf, takenOut, wouldLeave, contourQuestions, tileQuestions, correctRefusal, corrected}
 use Rattle.tile.specs.Laws.FirstNo.{firstNo-zero}
 use Rattle.tile.specs.Laws.IfDone.{if-done, if-refused}
 use Rattle.tile.specs.Laws.AskedContour.{sign-within, few-edges, contour-on}
@@ -48,7 +46,7 @@ module _ (s : tie.Start) where
   about = contourQuestions side call given
 
   abbrev later : List Question
-  later = question13 (takenOut (s .args .change) (s .args .count)) (given .edges) ∷ question9Twice (given .table) (wouldLeave side call given) ∷ []
+  later = tileQuestions side call given
 
   -- a refused call leaves the tile
   kept : {n : ℕ} → n ≡ correctRefusal side call given → n ≢ 0 → given ≡ corrected side call given
