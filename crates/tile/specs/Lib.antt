@@ -1,4 +1,4 @@
--- What the five public calls answer and leave, for every input; and what is promised of an outline and of what is drawn of it. Read in this order.
+-- What the seven public calls answer and leave, for every input; and what is promised of an outline and of what is drawn of it. Read in this order.
 --
 -- What is cited of the crates below is defined in their files of definitions. The trail of an entry: Outline, OutlineTable and Tile of `accuracy`,
 -- then Rounded, Integrals and Walk of `edge`, with Clamp, Tent, Trapezoid and Rounding of `integers`. Of an exact area: ExactArea of `accuracy`, then
@@ -21,12 +21,14 @@ pub mod Faithful
 pub mod Theorem
 -- ---- 02's placements: what is built is the outline as placed, so demands 2 and 3 are of that one
 pub mod PlacedOutline
--- ---- 02's corrections: what putting in and taking out answer and leave; the tile that holds contours
+-- ---- 02's corrections: what putting in and taking out answer and leave, and when each number is answered
 pub mod Corrections
+pub mod CorrectingRefusals
+-- what a tile holds, what each call makes of it, and the law of a series of calls, with that it holds
 pub mod Holding
 pub mod Series
-pub mod CorrectingRefusals
 pub mod SeriesTheorem
+-- what is in can be taken out, so there are such series
 pub mod NeverRefused
 -- ---- 01's letters
 pub mod Letters
