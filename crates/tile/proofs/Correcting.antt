@@ -28,7 +28,7 @@ use Rattle.tile.specs.Laws.AskedContour.{sign-within, contour-count, few
 use Rattle.tile.proofs.Room.{in-range-fits}
 
 -- ---- room
-module _ (side : ℕ) (k : Call) (t : Tile) (yes : All Yes (contourQuestions side k t)) (yes9 : Yes (question9 (t .table))) where
+module _ (k : Call) (t : Tile) (yes : All Yes (contourQuestions k t)) (yes9 : Yes (question9 (t .table))) where
   -- the edges, by the coordinates that the code counts
   abbrev n : ℕ
   n = length (k .points) / 2
@@ -38,17 +38,17 @@ module _ (side : ℕ) (k : Call) (t : Tile) (yes : All Yes (contourQuestions sid
       ap (λ m. m / 2) (sym (placed-length (k .placement) (k .points))) ∙ sym (pointsOf-length (placed (k .placement) (k .points)))
       ∙ contour-count k (yes .1 .1 .1 .1 .0)
 
-  fits-twice : Fits (t .table) (depthOf side) (n + n)
-  fits-twice = in-range-fits side (n + n) (t .table) (yes .0) (yes .1 .0) yes9 (omega (arith, counted, few-edges side k t yes))
+  fits-twice : Fits (t .table) (depthOf (k .side)) (n + n)
+  fits-twice = in-range-fits (k .side) (n + n) (t .table) (yes .0) (yes .1 .0) yes9 (omega (arith, counted, few-edges k t yes))
 
-  pub fits-contour : Fits (t .table) (depthOf side) n
+  pub fits-contour : Fits (t .table) (depthOf (k .side)) n
   fits-contour = fits-le (omega arith) fits-twice
 
-  pub fits-again : Fits (wouldLeave side k t) (depthOf side) n
+  pub fits-again : Fits (wouldLeave k t) (depthOf (k .side)) n
   fits-again =
       let es = contourEdges (contourOf k) in
-      let same : length es ≡ n = edges-counted side k t yes ∙ sym counted in
-      fits-edges (sign-within (k .change)) es n (contour-edges-on side k t yes) (fits-le (omega (arith, same)) fits-twice)
+      let same : length es ≡ n = edges-counted k t yes ∙ sym counted in
+      fits-edges (sign-within (k .change)) es n (contour-edges-on k t yes) (fits-le (omega (arith, same)) fits-twice)
 
 -- ---- the sign
 pub back-within : (x : Change) → Within (pos 1) (pos 0 -ℤ signOf x)

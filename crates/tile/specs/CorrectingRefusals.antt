@@ -3,7 +3,7 @@
 --
 -- Main results
 --   CorrectingRefusals, correcting-refusals    when a call answers each number: 1, 2, 4, 5, 3, 12, 6, 13, 9
---   put-never-13                               putting in never answers 13
+--   put-never-13, take-never-5                 putting in is never answered 13, taking out never 5
 --   refused-tile                               "A refused call changes nothing."
 --   question5Beside-means, question13-means,
 --   question9Twice-means                       what "yes" says
@@ -15,65 +15,63 @@ use Prim.Native.Nat.{ℕ, _+_, _<_, _≤_}
 use native.Mathlib.Omega.{arith}
 use borrow.Author.Tests.{le-leb}
 use lib.IntN.{ℤ, pos}
-use Rattle.integers.specs.Units.{mostEdges, entryLimit}
+use Rattle.integers.specs.Units.{mostPoints, mostEdges, entryLimit}
 use Rattle.integers.specs.Within.{Within}
-use Rattle.integers.specs.ListSum.{All}
+use Rattle.integers.specs.ListSum.{All, tally}
 use Rattle.integers.specs.Tests.{OneOf, leb-means, and-means}
 use Rattle.placement.specs.Placed.{placed}
 use Rattle.accuracy.specs.Outline.{edgeCount}
-use Rattle.tile.specs.declared.corrections.Change.the-variants.{Put}
+use Rattle.tile.specs.declared.corrections.Change.the-variants.{Put, Take}
 use Rattle.tile.specs.Questions.{Question, Yes, No, DecidedBy, question1, question2, question3, question4, question5Beside, question6, question9, question12, question13, question9Twice}
-use Rattle.tile.specs.Refusals.{question9-means}
+use Rattle.tile.specs.Refusals.{question4-means, question9-means}
 use Rattle.tile.specs.Corrections.{Tile, Call, alreadyIn, takenOut, wouldLeave, contourQuestions, correctingQuestions, correctRefusal, corrected}
 use Rattle.tile.specs.Laws.IfDone.{if-refused}
-use Rattle.tile.specs.Laws.FirstNo.{each-number, firstNo-among}
+use Rattle.tile.specs.Laws.FirstNo.{decided-no, each-number, firstNo-among}
 
--- ---- 1, 2, 4, 5, 3, 12, 6, 13, 9: `qk` is question k of the call on the tile t
-module _ (side : ℕ) (k : Call) (t : Tile) where
-  abbrev q1 : Question
-  q1 = question1 side
+-- ---- 1, 2, 4, 5, 3, 12, 6, 13, 9: what each asks of a call k and a tile t
+abbrev q1 : Call → Question
+q1 k = question1 (k .side)
 
-  abbrev q2 : Question
-  q2 = question2 side (t .table)
+abbrev q2 : Call → Tile → Question
+q2 k t = question2 (k .side) (t .table)
 
-  abbrev q4 : Question
-  q4 = question4 (k .count ∷ [])
+abbrev q4 : Call → Question
+q4 k = question4 (k .count ∷ [])
 
-  abbrev q5 : Question
-  q5 = question5Beside (alreadyIn (k .change) (t .edges)) (k .count ∷ [])
+abbrev q5 : Call → Tile → Question
+q5 k t = question5Beside (alreadyIn (k .change) (t .edges)) (k .count ∷ [])
 
-  abbrev q3 : Question
-  q3 = question3 (k .points) (k .count ∷ [])
+abbrev q3 : Call → Question
+q3 k = question3 (k .points) (k .count ∷ [])
 
-  abbrev q12 : Question
-  q12 = question12 (k .placement) (k .points)
+abbrev q12 : Call → Question
+q12 k = question12 (k .placement) (k .points)
 
-  abbrev q6 : Question
-  q6 = question6 side (placed (k .placement) (k .points))
+abbrev q6 : Call → Question
+q6 k = question6 (k .side) (placed (k .placement) (k .points))
 
-  abbrev q13 : Question
-  q13 = question13 (takenOut (k .change) (k .count)) (t .edges)
+abbrev q13 : Call → Tile → Question
+q13 k t = question13 (takenOut (k .change) (k .count)) (t .edges)
 
-  abbrev q9 : Question
-  q9 = question9Twice (t .table) (wouldLeave side k t)
+abbrev q9 : Call → Tile → Question
+q9 k t = question9Twice (t .table) (wouldLeave k t)
 
-pub record CorrectingRefusals (side : ℕ) (k : Call) (t : Tile) : Type 0 where
-  pub accepted : (correctRefusal side k t ≡ 0) ↔ All Yes (correctingQuestions side k t)
-  pub refused1 : (correctRefusal side k t ≡ 1) ↔ No (q1 side k t)
-  pub refused2 : (correctRefusal side k t ≡ 2) ↔ DecidedBy (q1 side k t ∷ []) (q2 side k t)
-  pub refused4 : (correctRefusal side k t ≡ 4) ↔ DecidedBy (q1 side k t ∷ q2 side k t ∷ []) (q4 side k t)
-  pub refused5 : (correctRefusal side k t ≡ 5) ↔ DecidedBy (q1 side k t ∷ q2 side k t ∷ q4 side k t ∷ []) (q5 side k t)
-  pub refused3 : (correctRefusal side k t ≡ 3) ↔ DecidedBy (q1 side k t ∷ q2 side k t ∷ q4 side k t ∷ q5 side k t ∷ []) (q3 side k t)
-  pub refused12 : (correctRefusal side k t ≡ 12) ↔ DecidedBy (q1 side k t ∷ q2 side k t ∷ q4 side k t ∷ q5 side k t ∷ q3 side k t ∷ []) (q12 side k t)
-  pub refused6 : (correctRefusal side k t ≡ 6)
-      ↔ DecidedBy (q1 side k t ∷ q2 side k t ∷ q4 side k t ∷ q5 side k t ∷ q3 side k t ∷ q12 side k t ∷ []) (q6 side k t)
-  pub refused13 : (correctRefusal side k t ≡ 13) ↔ DecidedBy (contourQuestions side k t) (q13 side k t)
-  pub refused9 : (correctRefusal side k t ≡ 9) ↔ DecidedBy (contourQuestions side k t ++ (q13 side k t ∷ [])) (q9 side k t)
-  pub no-other : OneOf (correctRefusal side k t) (0 ∷ 1 ∷ 2 ∷ 4 ∷ 5 ∷ 3 ∷ 12 ∷ 6 ∷ 13 ∷ 9 ∷ [])
+pub record CorrectingRefusals (k : Call) (t : Tile) : Type 0 where
+  pub accepted : (correctRefusal k t ≡ 0) ↔ All Yes (correctingQuestions k t)
+  pub refused1 : (correctRefusal k t ≡ 1) ↔ No (q1 k)
+  pub refused2 : (correctRefusal k t ≡ 2) ↔ DecidedBy (q1 k ∷ []) (q2 k t)
+  pub refused4 : (correctRefusal k t ≡ 4) ↔ DecidedBy (q1 k ∷ q2 k t ∷ []) (q4 k)
+  pub refused5 : (correctRefusal k t ≡ 5) ↔ DecidedBy (q1 k ∷ q2 k t ∷ q4 k ∷ []) (q5 k t)
+  pub refused3 : (correctRefusal k t ≡ 3) ↔ DecidedBy (q1 k ∷ q2 k t ∷ q4 k ∷ q5 k t ∷ []) (q3 k)
+  pub refused12 : (correctRefusal k t ≡ 12) ↔ DecidedBy (q1 k ∷ q2 k t ∷ q4 k ∷ q5 k t ∷ q3 k ∷ []) (q12 k)
+  pub refused6 : (correctRefusal k t ≡ 6) ↔ DecidedBy (q1 k ∷ q2 k t ∷ q4 k ∷ q5 k t ∷ q3 k ∷ q12 k ∷ []) (q6 k)
+  pub refused13 : (correctRefusal k t ≡ 13) ↔ DecidedBy (contourQuestions k t) (q13 k t)
+  pub refused9 : (correctRefusal k t ≡ 9) ↔ DecidedBy (contourQuestions k t ++ (q13 k t ∷ [])) (q9 k t)
+  pub no-other : OneOf (correctRefusal k t) (0 ∷ 1 ∷ 2 ∷ 4 ∷ 5 ∷ 3 ∷ 12 ∷ 6 ∷ 13 ∷ 9 ∷ [])
 
-pub correcting-refusals : (side : ℕ) (k : Call) (t : Tile) → CorrectingRefusals side k t
-correcting-refusals side k t =
-    let each = each-number (correctingQuestions side k t) tt in
+pub correcting-refusals : (k : Call) (t : Tile) → CorrectingRefusals k t
+correcting-refusals k t =
+    let each = each-number (correctingQuestions k t) tt in
     record {
       refused1 = each .0;
       refused2 = each .1 .0;
@@ -85,18 +83,28 @@ correcting-refusals side k t =
       refused13 = each .1 .1 .1 .1 .1 .1 .1 .0;
       refused9 = each .1 .1 .1 .1 .1 .1 .1 .1 .0;
       accepted = each .1 .1 .1 .1 .1 .1 .1 .1 .1;
-      no-other = firstNo-among (correctingQuestions side k t);
+      no-other = firstNo-among (correctingQuestions k t);
     }
 
-pub put-never-13 : (side : ℕ) (k : Call) (t : Tile) → k .change ≡ Put → correctRefusal side k t ≢ 13
-put-never-13 side k t e n =
-    let no = correcting-refusals side k t .refused13 .0 n .1 .1 .1 .1 .1 .1 .1 in
+-- putting in takes out no edge
+pub put-never-13 : (k : Call) (t : Tile) → k .change ≡ Put → correctRefusal k t ≢ 13
+put-never-13 k t e n =
+    let no = decided-no (contourQuestions k t) (q13 k t) (correcting-refusals k t .refused13 .0 n) in
     let yes = ap (λ c. question13 (takenOut c (k .count)) (t .edges) .answer) e ∙ le-leb 0 (t .edges) (omega arith) in
     true≢false (sym yes ∙ no)
 
+-- question 4 leaves question 5 nothing to refuse: no contour has more points than the most edges
+pub take-never-5 : (k : Call) (t : Tile) → k .change ≡ Take → correctRefusal k t ≢ 5
+unfolding tally
+take-never-5 k t e n =
+    let d = correcting-refusals k t .refused5 .0 n in
+    let few : k .count ≤ mostPoints = question4-means (k .count ∷ []) .0 (d .1 .1 .0) .0 .1 in
+    let yes = ap (λ c. question5Beside (alreadyIn c (t .edges)) (k .count ∷ []) .answer) e ∙ le-leb (0 + edgeCount (k .count ∷ [])) mostEdges (omega (arith, few)) in
+    true≢false (sym yes ∙ d .1 .1 .1)
+
 -- "A refused call changes nothing."
-pub refused-tile : (side : ℕ) (k : Call) (t : Tile) → 0 < correctRefusal side k t → corrected side k t ≡ t
-refused-tile side k t h = if-refused _ t {number = correctRefusal side k t} (λ e. omega (arith, h, e))
+pub refused-tile : (k : Call) (t : Tile) → 0 < correctRefusal k t → corrected k t ≡ t
+refused-tile k t h = if-refused _ t {number = correctRefusal k t} (λ e. omega (arith, h, e))
 
 -- ---- the questions
 -- "whether the record's count plus the contour's is at most 1,024"

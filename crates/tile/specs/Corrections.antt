@@ -2,11 +2,11 @@
 --
 -- Definitions
 --   Tile                         a table, and the record of its edge count
---   Change, signOf               putting in or taking out (`Change` is the code's); what a contour's values are multiplied by
---   Call                         a call
---   Contour, contourOf k         a contour is known by its points; that of a call
---   part side c i                what a contour adds to entry i
---   wouldLeave side k t          the table that a call would leave
+--   Call                         a call, but for the tile that it is made on: `Change`, putting in or taking out, is the code's
+--   Contour, contourOf k         a contour is the list of its points; that of a call
+--   part side c i                what a contour adds to entry i of a tile's table
+--   signOf                       what its values are multiplied by
+--   wouldLeave k t               the table that a call would leave
 --   alreadyIn, takenOut          what questions 5 and 13 read of the record and of the count
 --   contourQuestions             what a call asks first, about its contour: 1, 2, 4, 5, 3, 12, 6
 --   tileQuestions                and then, about the tile: 13, 9
@@ -36,11 +36,13 @@ pub record Tile : Type 0 where
 -- "Each takes one count, its points and a placement"
 pub record Call : Type 0 where
   pub change : Change
+  pub side : ℕ
   pub points : List ℤ
   pub count : ℕ
   pub placement : Placement
 
 -- ---- the contour
+-- in the order in which they are joined, from the first one on
 abbrev pub Contour : Type 0
 Contour = List Point
 
@@ -57,8 +59,9 @@ abbrev pub signOf : Change → ℤ
 signOf Put = pos 1
 signOf Take = negsuc 0
 
-abbrev pub wouldLeave : ℕ → Call → Tile → List ℤ
-wouldLeave side k t = added (t .table) (λ i. signOf (k .change) *ℤ part side (contourOf k) i)
+-- (`added` of `rasterize`: every entry with its own added)
+abbrev pub wouldLeave : Call → Tile → List ℤ
+wouldLeave k t = added (t .table) (λ i. signOf (k .change) *ℤ part (k .side) (contourOf k) i)
 
 -- ---- the questions
 -- how many edges question 5 counts beside the contour's: for taking out it is 01's question, of the contour alone
@@ -71,38 +74,37 @@ abbrev pub takenOut : Change → ℕ → ℕ
 takenOut Put count = 0
 takenOut Take count = count
 
--- those about the contour: 1, 2, 4, 5, 3, 12, 6, of an outline of one count
-abbrev pub contourQuestions : ℕ → Call → Tile → List Question
-contourQuestions side k t = outlineQuestions side (k .points) (k .count ∷ []) (k .placement) (alreadyIn (k .change) (t .edges)) (t .table)
+abbrev pub contourQuestions : Call → Tile → List Question
+contourQuestions k t = outlineQuestions (k .side) (k .points) (k .count ∷ []) (k .placement) (alreadyIn (k .change) (t .edges)) (t .table)
 
--- and about the tile: "13, after 6 and before 9"
-abbrev pub tileQuestions : ℕ → Call → Tile → List Question
-tileQuestions side k t = question13 (takenOut (k .change) (k .count)) (t .edges) ∷ question9Twice (t .table) (wouldLeave side k t) ∷ []
+-- "13, after 6 and before 9"
+abbrev pub tileQuestions : Call → Tile → List Question
+tileQuestions k t = question13 (takenOut (k .change) (k .count)) (t .edges) ∷ question9Twice (t .table) (wouldLeave k t) ∷ []
 
-abbrev pub correctingQuestions : ℕ → Call → Tile → List Question
-correctingQuestions side k t = contourQuestions side k t ++ tileQuestions side k t
+abbrev pub correctingQuestions : Call → Tile → List Question
+correctingQuestions k t = contourQuestions k t ++ tileQuestions k t
 
 -- ---- the outcome
-abbrev pub correctRefusal : ℕ → Call → Tile → ℕ
-correctRefusal side k t = firstNo (correctingQuestions side k t)
+abbrev pub correctRefusal : Call → Tile → ℕ
+correctRefusal k t = firstNo (correctingQuestions k t)
 
 abbrev pub edgesAfter : Change → ℕ → ℕ → ℕ
 edgesAfter Put count edges = edges + count
 edgesAfter Take count edges = edges - count
 
 -- "A refused call changes nothing."
-abbrev pub corrected : ℕ → Call → Tile → Tile
-corrected side k t = ifDone (correctRefusal side k t) (record { table = wouldLeave side k t; edges = edgesAfter (k .change) (k .count) (t .edges) }) t
+abbrev pub corrected : Call → Tile → Tile
+corrected k t = ifDone (correctRefusal k t) (record { table = wouldLeave k t; edges = edgesAfter (k .change) (k .count) (t .edges) }) t
 
 -- ---- as the code is given them
 abbrev pub tileOf : List ℤ → ℕ → Tile
 tileOf table edges = record { table = table; edges = edges }
 
-abbrev pub callOf : Change → List ℤ → ℕ → Placement → Call
-callOf change points count placement = record { change = change; points = points; count = count; placement = placement }
+abbrev pub callOf : Change → ℕ → List ℤ → ℕ → Placement → Call
+callOf change side points count placement = record { change = change; side = side; points = points; count = count; placement = placement }
 
-abbrev pub putting : List ℤ → ℕ → Placement → Call
+abbrev pub putting : ℕ → List ℤ → ℕ → Placement → Call
 putting = callOf Put
 
-abbrev pub taking : List ℤ → ℕ → Placement → Call
+abbrev pub taking : ℕ → List ℤ → ℕ → Placement → Call
 taking = callOf Take

@@ -24,12 +24,14 @@ pub mod PlacedOutline
 -- ---- 02's corrections: what putting in and taking out answer and leave, and when each number is answered
 pub mod Corrections
 pub mod CorrectingRefusals
+-- taking out is the inverse of putting in
+pub mod Inverse
 -- what a tile holds, what each call makes of it, and the law of a series of calls, with that it holds
 pub mod Holding
 pub mod Series
 pub mod SeriesTheorem
 -- what is in can be taken out, so there are such series
-pub mod NeverRefused
+pub mod NotRefused
 -- ---- 01's letters
 pub mod Letters
 -- ---- what inner functions answer

@@ -2,15 +2,16 @@
 -- and not yet taken out, table and count are those of building what remains, in any order of the contours. So a corrected letter is as near to its ink
 -- as one drawn afresh."
 --
--- A series is a list of calls, one after the other, each on the tile that the one before left. It is said of calls of any kind, so that other kinds of
--- contours have it too.
+-- A series is a list of calls, one after the other, each on the tile that the one before left. What it is is said of calls of any kind, and so is its law
+-- (`Laws/Runs`), so that calls for other kinds of contours need only that each keeps what a tile holds.
 --
 -- Definitions
 --   Calls K C                    calls k : K, each of a contour of the kind C: what is done with it, what is answered, and what is left
 --   run calls ks t               the tile after the calls ks
---   Lawful calls t cs ks rest    by the calls ks, from the tile t that has the contours cs in it, to the contours rest: what is taken out is in
---   corrections side             the calls `put` and `take` on a tile of that side
---   Series side                  a series of these
+--   Lawful calls t cs ks rest    the calls ks from the tile t on, where cs are the contours that are in before them, and rest those after them: each that
+--                                is taken out is in by then
+--   corrections                  the calls `put` and `take`, each with a side, points, a count and a placement of its own
+--   Series                       a series of these
 use mathlib.Core.Path.{_≡_}
 use mathlib.Core.Logic.{_≢_}
 use mathlib.Core.List.{List, [], _∷_, Perm}
@@ -40,8 +41,8 @@ pub data Lawful {K C : Type 0} (calls : Calls K C) : Tile → List C → List K 
       → Perm cs (calls .contour k ∷ others) → Lawful calls (calls .after k t) others ks rest → Lawful calls t cs (k ∷ ks) rest
 
 -- ---- `put` and `take`, as their contracts have them
-abbrev pub corrections : ℕ → Calls Call Contour
-corrections side = record { change = λ k. k .change; contour = contourOf; number = correctRefusal side; after = corrected side }
+abbrev pub corrections : Calls Call Contour
+corrections = record { change = λ k. k .change; contour = contourOf; number = correctRefusal; after = corrected }
 
-abbrev pub Series : ℕ → Tile → List Contour → List Call → List Contour → Type 0
-Series side = Lawful (corrections side)
+abbrev pub Series : Tile → List Contour → List Call → List Contour → Type 0
+Series = Lawful corrections

@@ -71,8 +71,8 @@ pub fn correct(
     edges: &mut u32,
     table: &mut [i64],
 ) -> u32
-    ensures { λ r. ⌜ r ≡ correctRefusal side (callOf change (now (points .entry)) count placement) (tileOf (now (table .entry)) (now (edges .entry))) ⌝ }
-    ensures { λ _. ⌜ tileOf (now (table .exit)) (now (edges .exit)) ≡ corrected side (callOf change (now (points .entry)) count placement) (tileOf (now (table .entry)) (now (edges .entry))) ⌝ }
+    ensures { λ r. ⌜ r ≡ correctRefusal (callOf change side (now (points .entry)) count placement) (tileOf (now (table .entry)) (now (edges .entry))) ⌝ }
+    ensures { λ _. ⌜ tileOf (now (table .exit)) (now (edges .exit)) ≡ corrected (callOf change side (now (points .entry)) count placement) (tileOf (now (table .entry)) (now (edges .entry))) ⌝ }
     ensures { λ _. ⌜ now (points .exit) ≡ now (points .entry) ⌝ }
 {
     let recorded = *edges;

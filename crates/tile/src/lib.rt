@@ -335,10 +335,10 @@ pub fn put(
     edges: &mut u32,
     table: &mut [i64],
 ) -> u32
-    ensures { λ r. ⌜ r ≡ correctRefusal side (putting (now (points .entry)) count placement) (tileOf (now (table .entry)) (now (edges .entry))) ⌝ }
-    ensures { λ _. ⌜ now (edges .exit) ≡ corrected side (putting (now (points .entry)) count placement) (tileOf (now (table .entry)) (now (edges .entry))) .edges ⌝ }
-    ensures { λ _. ⌜ now (table .exit) ≡ corrected side (putting (now (points .entry)) count placement) (tileOf (now (table .entry)) (now (edges .entry))) .table ⌝ }
-    ensures { λ _. ⌜ HoldsOneMore side (putting (now (points .entry)) count placement) (tileOf (now (table .entry)) (now (edges .entry))) (tileOf (now (table .exit)) (now (edges .exit))) ⌝ }
+    ensures { λ r. ⌜ r ≡ correctRefusal (putting side (now (points .entry)) count placement) (tileOf (now (table .entry)) (now (edges .entry))) ⌝ }
+    ensures { λ _. ⌜ now (edges .exit) ≡ corrected (putting side (now (points .entry)) count placement) (tileOf (now (table .entry)) (now (edges .entry))) .edges ⌝ }
+    ensures { λ _. ⌜ now (table .exit) ≡ corrected (putting side (now (points .entry)) count placement) (tileOf (now (table .entry)) (now (edges .entry))) .table ⌝ }
+    ensures { λ _. ⌜ HoldsOneMore (putting side (now (points .entry)) count placement) (tileOf (now (table .entry)) (now (edges .entry))) (tileOf (now (table .exit)) (now (edges .exit))) ⌝ }
     ensures { λ _. ⌜ now (points .exit) ≡ now (points .entry) ⌝ }
 {
     corrections::correct(side, Change::Put, points, count, placement, edges, table)
@@ -353,10 +353,10 @@ pub fn take(
     edges: &mut u32,
     table: &mut [i64],
 ) -> u32
-    ensures { λ r. ⌜ r ≡ correctRefusal side (taking (now (points .entry)) count placement) (tileOf (now (table .entry)) (now (edges .entry))) ⌝ }
-    ensures { λ _. ⌜ now (edges .exit) ≡ corrected side (taking (now (points .entry)) count placement) (tileOf (now (table .entry)) (now (edges .entry))) .edges ⌝ }
-    ensures { λ _. ⌜ now (table .exit) ≡ corrected side (taking (now (points .entry)) count placement) (tileOf (now (table .entry)) (now (edges .entry))) .table ⌝ }
-    ensures { λ _. ⌜ HoldsOneLess side (taking (now (points .entry)) count placement) (tileOf (now (table .entry)) (now (edges .entry))) (tileOf (now (table .exit)) (now (edges .exit))) ⌝ }
+    ensures { λ r. ⌜ r ≡ correctRefusal (taking side (now (points .entry)) count placement) (tileOf (now (table .entry)) (now (edges .entry))) ⌝ }
+    ensures { λ _. ⌜ now (edges .exit) ≡ corrected (taking side (now (points .entry)) count placement) (tileOf (now (table .entry)) (now (edges .entry))) .edges ⌝ }
+    ensures { λ _. ⌜ now (table .exit) ≡ corrected (taking side (now (points .entry)) count placement) (tileOf (now (table .entry)) (now (edges .entry))) .table ⌝ }
+    ensures { λ _. ⌜ HoldsOneLess (taking side (now (points .entry)) count placement) (tileOf (now (table .entry)) (now (edges .entry))) (tileOf (now (table .exit)) (now (edges .exit))) ⌝ }
     ensures { λ _. ⌜ now (points .exit) ≡ now (points .entry) ⌝ }
 {
     corrections::correct(side, Change::Take, points, count, placement, edges, table)

@@ -3,7 +3,7 @@ use mathlib.Core.Path.{refl, ap, subst⁻¹}
 use mathlib.Core.List.{_∷_}
 use borrow.Author.Needs.{needs}
 use Rattle.tile.specs.Corrections.{tileOf, putting, contourOf}
-use Rattle.tile.specs.Holding.{Holds}
+use Rattle.tile.specs.Holding.{HoldsContours}
 use Rattle.tile.specs.Laws.Kept.{holds-put}
 use Rattle.tile.proofs.put.Statement.{statement}
 use Rattle.tile.proofs.put.Tie as tie
@@ -11,7 +11,7 @@ use Rattle.tile.proofs.put.Tie as tie
 returns : tie.Need-returns
 returns c =
     let s = c .before .before .before .before in
-    let k = putting (s .args .points .now) (s .args .count) (s .args .placement) in
+    let k = putting (s .args .side) (s .args .points .now) (s .args .count) (s .args .placement) in
     let t = tileOf (s .args .table .now) (s .args .edges .now) in
     let e = c .before .correct .ensures .1 .0 in (
       c .before .correct .ensures .0,
@@ -20,7 +20,7 @@ returns c =
         (
           ap (λ t. t .table) e,
           (
-            λ cs h done. subst⁻¹ (Holds (s .args .side) (contourOf k ∷ cs)) e (holds-put (s .args .side) k t done refl h),
+            λ cs h done. subst⁻¹ (HoldsContours (s .args .side) (contourOf k ∷ cs)) e (holds-put k t done refl h),
             refl,
           ),
         ),

@@ -2,7 +2,7 @@
 use mathlib.Core.Path.{refl, ap, subst⁻¹}
 use borrow.Author.Needs.{needs}
 use Rattle.tile.specs.Corrections.{tileOf, taking}
-use Rattle.tile.specs.Holding.{Holds}
+use Rattle.tile.specs.Holding.{HoldsContours}
 use Rattle.tile.specs.Laws.Kept.{holds-taken}
 use Rattle.tile.proofs.take.Statement.{statement}
 use Rattle.tile.proofs.take.Tie as tie
@@ -10,7 +10,7 @@ use Rattle.tile.proofs.take.Tie as tie
 returns : tie.Need-returns
 returns c =
     let s = c .before .before .before .before in
-    let k = taking (s .args .points .now) (s .args .count) (s .args .placement) in
+    let k = taking (s .args .side) (s .args .points .now) (s .args .count) (s .args .placement) in
     let t = tileOf (s .args .table .now) (s .args .edges .now) in
     let e = c .before .correct .ensures .1 .0 in (
       c .before .correct .ensures .0,
@@ -19,7 +19,7 @@ returns c =
         (
           ap (λ t. t .table) e,
           (
-            λ cs others p h done. subst⁻¹ (Holds (s .args .side) others) e (holds-taken (s .args .side) k t done refl p h),
+            λ others h done. subst⁻¹ (HoldsContours (s .args .side) others) e (holds-taken k t done refl h),
             refl,
           ),
         ),

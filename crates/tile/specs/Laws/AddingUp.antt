@@ -4,7 +4,7 @@
 -- Main results
 --   AddsUp                       the tile's table is the sum of the contours' values, and its record the sum of their edges
 --   adds-up-none                 of no contour, a table of zeros and 0
---   adds-up-put, adds-up-taken   a contour put in; one that is in, taken out
+--   adds-up-put, adds-up-taken   a contour put in; one taken out
 --   adds-up-perm                 the order does not matter
 use mathlib.Core.Path.{_≡_, refl, _∙_, ap}
 use mathlib.Core.List.{List, [], _∷_, Perm}
@@ -12,7 +12,7 @@ use Prim.Native.Nat.{ℕ, _+_, _-_}
 use native.Mathlib.Omega.{arith}
 use lib.ListN.{replicate}
 use lib.IntN.{ℤ, pos, negsuc, _+ℤ_, _*ℤ_}
-use Rattle.integers.specs.Ring.{read, ring, comb}
+use Rattle.integers.specs.Ring.{read, ring}
 use Rattle.integers.specs.ListSum.{total, tally, total-perm, tally-perm}
 use Rattle.rasterize.specs.Added.{added}
 use Rattle.rasterize.specs.Laws.Adding.{added-added, added-same, added-unique}
@@ -53,17 +53,16 @@ module _ {C : Type 0} (cells : ℕ) (part : C → ℕ → ℤ) (size : C → ℕ
       swap : (x y : ℤ) → x +ℤ pos 1 *ℤ y ≡ y +ℤ x
       swap x y = ring (x ∷ y ∷ []) (search read depth 40) tt
 
-  pub adds-up-taken : {cs : List C} {t : Tile} (c : C) {others : List C} → Perm cs (c ∷ others) → AddsUp cells part size cs t
+  pub adds-up-taken : {others : List C} {t : Tile} (c : C) → AddsUp cells part size (c ∷ others) t
       → AddsUp cells part size others (tileOf (added (t .table) (λ i. negsuc 0 *ℤ part c i)) (t .edges - size c))
   unfolding total tally
-  adds-up-taken {cs} c {others} p a = record {
-    table-is = table-next cs (λ i. negsuc 0 *ℤ part c i) (sum others) (a .table-is)
-        (λ i. without (sum cs i) (part c i) (sum others i) (total-perm (λ c. part c i) p));
-    edges-is = omega (arith, a .edges-is, tally-perm size p);
+  adds-up-taken {others} c a = record {
+    table-is = table-next (c ∷ others) (λ i. negsuc 0 *ℤ part c i) (sum others) (a .table-is) (λ i. without (part c i) (sum others i));
+    edges-is = omega (arith, a .edges-is);
   }
     where
-      without : (x y z : ℤ) → x ≡ y +ℤ z → x +ℤ negsuc 0 *ℤ y ≡ z
-      without x y z e = comb (x ∷ y ∷ z ∷ []) e (search read depth 40) tt
+      without : (x y : ℤ) → x +ℤ y +ℤ negsuc 0 *ℤ x ≡ y
+      without x y = ring (x ∷ y ∷ []) (search read depth 40) tt
 
   pub adds-up-perm : {cs ds : List C} {t : Tile} → Perm cs ds → AddsUp cells part size cs t → AddsUp cells part size ds t
   adds-up-perm {cs} {ds} p a = record {

@@ -61,7 +61,10 @@ module _ (k : Call) (yes3 : Yes (question3 (k .points) (k .count ∷ []))) where
   contour-coordinates = points-back (k .count) drawn even
 
 -- ---- by all of them
-module _ (side : ℕ) (k : Call) (t : Tile) (yes : All Yes (contourQuestions side k t)) where
+module _ (k : Call) (t : Tile) (yes : All Yes (contourQuestions k t)) where
+  abbrev side : ℕ
+  side = k .side
+
   abbrev yes3 : Yes (question3 (k .points) (k .count ∷ []))
   yes3 = yes .1 .1 .1 .1 .0
 

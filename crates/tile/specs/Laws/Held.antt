@@ -3,8 +3,10 @@
 --
 -- Main results
 --   Sums                         what is said of the sums
---   holds-of-sums, sums-of-holds it is what `Holds` says
+--   reordered                    in any order
+--   holds-of-sums, sums-of-holds it is what `HoldsContours` says
 --   sums-of-built                and what one accepted building leaves
+--   sums-length                  the table has side × side entries
 --   sums-within, sums-in-range   the table's entries are at most what the most edges add, and so in question 9's range
 use mathlib.Core.Path.{_≡_, sym, _∙_, ap, ap₂, subst, subst⁻¹}
 use mathlib.Core.Bool.{true}
@@ -20,22 +22,25 @@ use Rattle.integers.specs.Ring.{read, ring}
 use Rattle.integers.specs.ListSum.{total, tally, tally-perm}
 use Rattle.integers.specs.Tests.{every}
 use Rattle.integers.specs.Every.{every-perm}
-use Rattle.accuracy.specs.Outline.{edgeCount, contourEdges, outlineEdges}
+use Rattle.accuracy.specs.Outline.{edgeCount, contourEdges, outlineEdges, signedArea}
 use Rattle.accuracy.specs.OutlineTable.{outlineTable}
+use Rattle.accuracy.specs.Accurate.{twiceMissLimit}
+use Rattle.accuracy.specs.Laws.Contours.{outlineEdges-length}
+use Rattle.accuracy.specs.Laws.Denominator.{denominator-pos}
 use Rattle.rasterize.specs.Added.{added, entryOf}
-use Rattle.rasterize.specs.Laws.Adding.{added-same, added-zeros}
+use Rattle.rasterize.specs.Laws.Adding.{added-length, added-same, added-zeros}
 use Rattle.rasterize.specs.Laws.Sums.{entryOf-append, entryOf-total}
 use Rattle.tile.specs.Questions.{Yes, depthOf, question1, question9}
 use Rattle.tile.specs.Outcomes.{edgesTable, tableOf, buildRefusal, buildResult, buildTable}
 use Rattle.tile.specs.Refusals.{question2-means}
-use Rattle.tile.specs.Faithful.{DrawnOutline}
-use Rattle.tile.specs.Theorem.{faithful}
+use Rattle.tile.specs.Faithful.{Drawn, FaithfulTo}
+use Rattle.tile.specs.Theorem.{table-drawn}
 use Rattle.tile.specs.Corrections.{Tile, Contour, part}
-use Rattle.tile.specs.Holding.{coordinates, countsOf, builtAs, Holds}
+use Rattle.tile.specs.Holding.{coordinates, countsOf, builtAs, HoldsContours}
 use Rattle.tile.specs.Laws.IfDone.{if-done}
 use Rattle.tile.specs.Laws.Sides.{side-cells}
 use Rattle.tile.specs.Laws.Answers.{in-range-entries}
-use Rattle.tile.specs.Laws.Accepted.{accepted, accepted-edges}
+use Rattle.tile.specs.Laws.Accepted.{accepted, AcceptedEdges, accepted-edges}
 use Rattle.tile.specs.Laws.BuiltTable.{built-is, table-within}
 use Rattle.tile.specs.Laws.Written.{isContour, contours-back, edges-counted, written-accepted}
 use Rattle.tile.specs.Laws.AddingUp.{AddsUp, adds-up-perm}
@@ -68,7 +73,7 @@ module _ (side : ℕ) where
       once x = ring (x ∷ []) (search read depth 40) tt
 
 -- ---- any order
-reordered : {side : ℕ} {cs ds : List Contour} {t : Tile} → Perm cs ds → Sums side cs t → Sums side ds t
+pub reordered : {side : ℕ} {cs ds : List Contour} {t : Tile} → Perm cs ds → Sums side cs t → Sums side ds t
 reordered {side} p s = record {
   is-side = s .is-side;
   adds-up = adds-up-perm (side * side) (part side) length p (s .adds-up);
@@ -97,25 +102,38 @@ module _ {side : ℕ} {cs : List Contour} {t : Tile} (s : Sums side cs t) where
   blank-length : length blank ≡ side * side
   blank-length = length-replicate (side * side) (pos 0)
 
-  is-drawn : (level : ℕ) → level ≤ depthOf side → DrawnOutline side (coordinates cs) (countsOf cs) (t .table) level
-  is-drawn level shallow =
-      subst (λ (l : List ℤ). DrawnOutline side (coordinates cs) (countsOf cs) l level) (table-built blank blank-length)
-      (faithful side (coordinates cs) (countsOf cs) blank .drawn (building-accepts blank blank-length) level shallow)
+  few-accepted : AcceptedEdges side (outlineEdges cs)
+  few-accepted =
+      subst (λ ds. AcceptedEdges side (outlineEdges ds)) (contours-back cs)
+      (accepted-edges (accepted side (coordinates cs) (countsOf cs) blank (building-accepts blank blank-length)))
+
+  is-faithful : FaithfulTo side (outlineEdges cs) (signedArea (outlineEdges cs)) twiceMissLimit 0 (t .edges) (t .table)
+  is-faithful =
+      let same : edgesTable side (outlineEdges cs) ≡ t .table = ap (λ ds. edgesTable side (outlineEdges ds)) (sym (contours-back cs)) ∙ sym table-is in
+      record {
+        denominator-positive = denominator-pos (outlineEdges cs);
+        counted = λ _. outlineEdges-length cs ∙ sym (s .adds-up .edges-is);
+        drawn = λ _ level shallow.
+            subst (λ (l : List ℤ). Drawn side (outlineEdges cs) (signedArea (outlineEdges cs)) twiceMissLimit l level) same (table-drawn few-accepted level shallow);
+      }
+
+  pub sums-length : length (t .table) ≡ side * side
+  sums-length = ap length (s .adds-up .table-is) ∙ added-length blank _ ∙ blank-length
 
   -- no entry passes 2^38
   pub sums-within : (i : ℕ) → Within (pos builtEntryLimit) (getD (t .table) i (pos 0))
   sums-within i =
-      let a = accepted side (coordinates cs) (countsOf cs) blank (building-accepts blank blank-length) in
-      subst⁻¹ (λ l. Within (pos builtEntryLimit) (getD l i (pos 0))) table-is (table-within side _ (accepted-edges a) i)
+      let same : t .table ≡ edgesTable side (outlineEdges cs) = table-is ∙ ap (λ ds. edgesTable side (outlineEdges ds)) (contours-back cs) in
+      subst⁻¹ (λ l. Within (pos builtEntryLimit) (getD l i (pos 0))) same (table-within side (outlineEdges cs) few-accepted i)
 
   pub sums-in-range : Yes (question9 (t .table))
   sums-in-range = let larger : builtEntryLimit ≤ entryLimit = lit≤ tt in in-range-entries (t .table) (record { each = λ i. within-le (pos-≤ℤ larger) (sums-within i) })
 
-pub holds-of-sums : {side : ℕ} {cs : List Contour} {t : Tile} → Sums side cs t → Holds side cs t
+pub holds-of-sums : {side : ℕ} {cs : List Contour} {t : Tile} → Sums side cs t → HoldsContours side cs t
 holds-of-sums s = record {
   count-built = λ order p. count-built (reordered p s);
   table-built = λ order p. table-built (reordered p s);
-  drawn = λ order p. is-drawn (reordered p s);
+  faithful = λ order p. is-faithful (reordered p s);
 }
 
 -- ---- and back, from one building that was accepted
@@ -131,7 +149,7 @@ sums-of-built side cs t before done table edges =
     }
 
 -- by building in the order that they are in
-pub sums-of-holds : {side : ℕ} {cs : List Contour} {t : Tile} → Holds side cs t → Sums side cs t
+pub sums-of-holds : {side : ℕ} {cs : List Contour} {t : Tile} → HoldsContours side cs t → Sums side cs t
 sums-of-holds {side} {cs} {t} h =
     let before = replicate (side * side) (pos 0) in
     let long = length-replicate (side * side) (pos 0) in

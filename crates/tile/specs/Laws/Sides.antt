@@ -4,12 +4,16 @@
 --   side-cases                 what holds of 1, 2, 4, 8, 16, 32 and 64 holds of every side
 --   side-power                 a side is 2^depth
 --   side-depth, side-le        its depth is one of a tile's, and so is the side
+--   square-injective           a number is known by its square
 --   side-cells                 a tile has as many pixels as its deepest level has cells
 use mathlib.Core.Path.{_≡_, refl, _∙_, ap, subst⁻¹}
 use mathlib.Core.Bool.{true}
 use mathlib.Core.List.{[], _∷_}
 use mathlib.Core.Logic.{inl, inr}
-use Prim.Native.Nat.{ℕ, _*_, _^_, _≤_}
+use Prim.Native.Nat.{ℕ, _*_, _^_, _<_, _≤_}
+use native.Mathlib.Decide.{decLt}
+use native.Mathlib.Nat.{mul-le-mul-left, mul-lt-mul-of-pos-right}
+use native.Mathlib.Omega.{arith}
 use lib.Count.{trailingZeros}
 use lib.Dec.{lit≤}
 use Rattle.integers.specs.Units.{greatestDepth, greatestSide}
@@ -45,3 +49,16 @@ side-le = side-cases (λ side. side ≤ greatestSide) (lit≤ tt) (lit≤ tt) (l
 
 pub side-cells : (side : ℕ) → question1 side .answer ≡ true → side * side ≡ children dimensions ^ depthOf side
 side-cells side e = ap (λ s. s * s) (side-power side e) ∙ level-square (depthOf side)
+
+squares-apart : {m n : ℕ} → m < n → m * m < n * n
+squares-apart {m} {n} h =
+    let below : m * m ≤ m * n = mul-le-mul-left m (omega arith) in
+    let above : m * n < n * n = mul-lt-mul-of-pos-right h (omega arith) in
+    omega (arith, below, above)
+
+pub square-injective : (m n : ℕ) → m * m ≡ n * n → m ≡ n
+square-injective m n e =
+    elim (decLt m n) [
+      | yes h ↦ absurd (omega (arith, squares-apart h, e))
+      | no h ↦ elim (decLt n m) [ yes k ↦ absurd (omega (arith, squares-apart k, e)) | no k ↦ omega arith ]
+    ]

@@ -9,16 +9,15 @@ use Rattle.tile_c.proofs.mattuliyan_put.Tie as tie
 returns : tie.Need-returns
 returns c =
     let s = c .before .before .before .before .before .before in
-    let side = s .args .side in
-    let k = putting (s .args .points .now) (s .args .count) in
+    let k = putting (s .args .side) (s .args .points .now) (s .args .count) in
     let t = tileOf (s .args .table .now) (s .args .edges .now) in
     let is-placement = c .before .before .before .before .placement-of .ensures in
     let called = c .before .put .ensures in
-    let held = subst (λ p. HoldsOneMore side (k p) t (tileOf (c .before .put .last .1 .1 .1 .1 .1 .0) (c .before .put .last .1 .1 .1 .1 .0))) is-placement (called .1 .1 .1 .0) in (
-      called .0 ∙ ap (λ p. correctRefusal side (k p) t) is-placement,
+    let held = subst (λ p. HoldsOneMore (k p) t (tileOf (c .before .put .last .1 .1 .1 .1 .1 .0) (c .before .put .last .1 .1 .1 .1 .0))) is-placement (called .1 .1 .1 .0) in (
+      called .0 ∙ ap (λ p. correctRefusal (k p) t) is-placement,
       (
-        called .1 .0 ∙ ap (λ p. corrected side (k p) t .edges) is-placement,
-        (called .1 .1 .0 ∙ ap (λ p. corrected side (k p) t .table) is-placement, (held, (refl, refl))),
+        called .1 .0 ∙ ap (λ p. corrected (k p) t .edges) is-placement,
+        (called .1 .1 .0 ∙ ap (λ p. corrected (k p) t .table) is-placement, (held, (refl, refl))),
       ),
     )
 

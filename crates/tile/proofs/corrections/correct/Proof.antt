@@ -37,19 +37,19 @@ module _ (s : tie.Start) where
   side = s .args .side
 
   abbrev call : Call
-  call = callOf (s .args .change) (s .args .points .now) (s .args .count) (s .args .placement)
+  call = callOf (s .args .change) side (s .args .points .now) (s .args .count) (s .args .placement)
 
   abbrev given : Tile
   given = tileOf (s .args .table .now) (s .args .edges .now)
 
   abbrev about : List Question
-  about = contourQuestions side call given
+  about = contourQuestions call given
 
   abbrev later : List Question
-  later = tileQuestions side call given
+  later = tileQuestions call given
 
   -- a refused call leaves the tile
-  kept : {n : ℕ} → n ≡ correctRefusal side call given → n ≢ 0 → given ≡ corrected side call given
+  kept : {n : ℕ} → n ≡ correctRefusal call given → n ≢ 0 → given ≡ corrected call given
   kept e h = sym (if-refused _ given (λ z. h (e ∙ z)))
 
 -- ---- the questions about the contour
@@ -74,7 +74,7 @@ module _ (c : tie.Else1) where
   yes : All Yes (about (start (c .before)))
   yes = firstNo-zero (about (start (c .before))) tt .0 (sym (asked (c .before)) ∙ c .if1 .left)
 
-  passed : correctRefusal (side (start (c .before))) (call (start (c .before))) (given (start (c .before))) ≡ firstNo (later (start (c .before)))
+  passed : correctRefusal (call (start (c .before))) (given (start (c .before))) ≡ firstNo (later (start (c .before)))
   passed = first-passed (about (start (c .before))) (later (start (c .before))) yes
 
 -- ---- question 13
@@ -83,8 +83,8 @@ module _ (c : tie.After-taken-out) where
   at = start (c .before .before)
 
   thirteen : {b : Bool} → question13 (takenOut (at .args .change) (at .args .count)) (given at .edges) .answer ≡ b
-      → correctRefusal (side at) (call at) (given at) ≡ cond b (firstNo (question9Twice (given at .table) (wouldLeave (side at) (call at) (given at)) ∷ [])) 13
-  thirteen e = passed (c .before) ∙ ap (λ b. cond b (firstNo (question9Twice (given at .table) (wouldLeave (side at) (call at) (given at)) ∷ [])) 13) e
+      → correctRefusal (call at) (given at) ≡ cond b (firstNo (question9Twice (given at .table) (wouldLeave (call at) (given at)) ∷ [])) 13
+  thirteen e = passed (c .before) ∙ ap (λ b. cond b (firstNo (question9Twice (given at .table) (wouldLeave (call at) (given at)) ∷ [])) 13) e
 
 returns-2 : tie.Need-returns-2
 returns-2 c =
@@ -104,8 +104,8 @@ module _ (c : tie.After-search-entries) where
   abbrev from : tie.Start
   from = at (before-search .before)
 
-  nine : {b : Bool} → question9Twice (given from .table) (wouldLeave (side from) (call from) (given from)) .answer ≡ b
-      → correctRefusal (side from) (call from) (given from) ≡ cond b 0 9
+  nine : {b : Bool} → question9Twice (given from .table) (wouldLeave (call from) (given from)) .answer ≡ b
+      → correctRefusal (call from) (given from) ≡ cond b 0 9
   nine e = thirteen (before-search .before) (le-leb _ _ (counted before-search)) ∙ ap (λ b. cond b 0 9) e
 
 returns-3 : tie.Need-returns-3
@@ -113,7 +113,7 @@ returns-3 c =
     let f = c .before .before in
     let s = from f in
     let out : question9 (given s .table) .answer ≡ false = sym (f .search-entries .ensures .0) ∙ not-true _ (c .if3 .taken) in
-    let number = sym (nine f (ap (λ b. b && question9 (wouldLeave (side s) (call s) (given s)) .answer) out)) in
+    let number = sym (nine f (ap (λ b. b && question9 (wouldLeave (call s) (given s)) .answer) out)) in
     (number, (kept s number (λ z. absurd (omega (arith, z))), refl))
 
 -- ---- the contour goes in
@@ -141,8 +141,8 @@ add-contour-requires c κs =
     let d = c .before in
     let t = s d in (
       subst⁻¹ (λ k. Fits (given t .table) k (length (call t .points) / 2)) (depth-at d .depth-of .ensures)
-          (fits-contour (side t) (call t) (given t) (answers d) (in-range (depth-at d .before))),
-      subst⁻¹ (λ k. All (OnTile k) (contourOf (call t))) (depth-at d .depth-of .ensures) (contour-on (side t) (call t) (given t) (answers d)),
+          (fits-contour (call t) (given t) (answers d) (in-range (depth-at d .before))),
+      subst⁻¹ (λ k. All (OnTile k) (contourOf (call t))) (depth-at d .depth-of .ensures) (contour-on (call t) (given t) (answers d)),
       subst⁻¹ (Within (pos 1)) (sign-is d) (sign-within (t .args .change)),
       answers d .1 .1 .1 .1 .1 .0,
     )
@@ -154,13 +154,13 @@ module _ (c : tie.After-add-contour) where
   abbrev o : tie.Start
   o = s signed
 
-  added-is : c .add-contour .last .0 ≡ wouldLeave (side o) (call o) (given o)
+  added-is : c .add-contour .last .0 ≡ wouldLeave (call o) (given o)
   added-is =
       c .add-contour .ensures
       ∙ ap₂ (λ k z. added (given o .table) (edgesPart k z (contourEdges (contourOf (call o))))) (depth-at signed .depth-of .ensures) (sign-is signed)
 
   -- the table that is left decides
-  number-is : {b : Bool} → question9 (c .add-contour .last .0) .answer ≡ b → correctRefusal (side o) (call o) (given o) ≡ cond b 0 9
+  number-is : {b : Bool} → question9 (c .add-contour .last .0) .answer ≡ b → correctRefusal (call o) (given o) ≡ cond b 0 9
   number-is e =
       nine (searched signed) (ap₂ _&&_ (in-range (depth-at signed .before)) (sym (ap (λ l. question9 l .answer) added-is) ∙ e))
 
@@ -189,8 +189,8 @@ add-contour-requires-2 c κs =
     let opposite = subst⁻¹ (Within (pos 1)) (back-is a) (back-within (t .args .change)) in (
       subst⁻¹ (λ k. Fits (a .add-contour .last .0) k (length (call t .points) / 2)) (depth-at (signed a) .depth-of .ensures)
           (subst⁻¹ (λ l. Fits l (depthOf (side t)) (length (call t .points) / 2)) (added-is a)
-          (fits-again (side t) (call t) (given t) (answers (signed a)) (in-range (depth-at (signed a) .before)))),
-      subst⁻¹ (λ k. All (OnTile k) (contourOf (call t))) (depth-at (signed a) .depth-of .ensures) (contour-on (side t) (call t) (given t) (answers (signed a))),
+          (fits-again (call t) (given t) (answers (signed a)) (in-range (depth-at (signed a) .before)))),
+      subst⁻¹ (λ k. All (OnTile k) (contourOf (call t))) (depth-at (signed a) .depth-of .ensures) (contour-on (call t) (given t) (answers (signed a))),
       search (sign, opposite),
       answers (signed a) .1 .1 .1 .1 .1 .0,
     )
@@ -215,7 +215,7 @@ edges-after-requires : tie.Need-edges-after-requires
 edges-after-requires c κs =
     let a = c .before .before .before .before .before in
     let t = o a in
-    (few-edges (side t) (call t) (given t) (answers (signed a)), counted (before-search (searched (signed a))))
+    (few-edges (call t) (given t) (answers (signed a)), counted (before-search (searched (signed a))))
 
 returns-5 : tie.Need-returns-5
 returns-5 c =

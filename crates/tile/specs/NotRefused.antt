@@ -1,0 +1,171 @@
+-- What a tile that holds contours does not refuse: taking out one that it holds, and putting in what is a contour as long as there are not too many edges;
+-- and no call is answered 9. So there are series of corrections, and an example is one.
+--
+-- Main results
+--   never-9                      no call on a tile that holds contours is answered 9
+--   put-accepted                 a contour that is one, and not too many edges, can be put in
+--   take-accepted                a contour that is in can be taken out
+--   take-as-it-lies              and also with no placement, by the points that it has as placed
+--   example                      a series: two calls that are refused, two contours put in, one by a shift, and that one taken out as it lies; the other remains
+use mathlib.Core.Path.{_≡_, refl, sym, _∙_, ap, ap₂, subst, subst⁻¹}
+use mathlib.Core.Bool.{true, false, _&&_, true≢false}
+use mathlib.Core.Logic.{_≢_}
+use mathlib.Core.List.{List, [], _∷_, _++_, Perm, Perm·swap}
+use Prim.Native.Nat.{ℕ, _+_}
+use native.Mathlib.Omega.{arith}
+use borrow.Author.Tests.{le-leb}
+use lib.ListN.{length}
+use lib.IntN.{ℤ, pos}
+use lib.Ieee.{fin}
+use Rattle.integers.specs.Units.{mostEdges}
+use Rattle.integers.specs.ListSum.{All, all-append, all-front, tally, tally-perm}
+use Rattle.integers.specs.Tests.{every, and-true-means}
+use Rattle.integers.specs.Every.{every-perm}
+use Rattle.placement.specs.declared.Placement.{Placement}
+use Rattle.placement.specs.declared.Placement.the-variants.{None, Shift}
+use Rattle.integers.specs.Rounding.{roundHalfUp, floor}
+use Rattle.placement.specs.Parts.{partsOf, isMultiple}
+use Rattle.placement.specs.Placed.{placed}
+use Rattle.placement.specs.Laws.PlacedPoints.{placed-none}
+use Rattle.accuracy.specs.Outline.{pointsOf, edgeCount}
+use Rattle.tile.specs.declared.corrections.Change.the-variants.{Put}
+use Rattle.tile.specs.Questions.{Yes, question1, question2, question3, question4, question5Beside, question6, question9Twice, question12, question13}
+use Rattle.tile.specs.Refusals.{question2-means, question3-means}
+use Rattle.tile.specs.Corrections.{Tile, Call, Contour, putting, taking, contourOf, takenOut, wouldLeave, contourQuestions, tileQuestions, correctRefusal, corrected}
+use Rattle.tile.specs.Holding.{coordinatesOf, emptyTile, HoldsContours}
+use Rattle.tile.specs.Series.{none, refused, put, taken, Series}
+use Rattle.tile.specs.CorrectingRefusals.{correcting-refusals}
+use Rattle.tile.specs.SeriesTheorem.{holds-empty}
+use Rattle.tile.specs.Laws.FirstNo.{decided-yes, decided-no}
+use Rattle.tile.specs.Laws.Sides.{square-injective}
+use Rattle.tile.specs.Laws.Written.{isContour, back-points, coordinatesOf-length}
+use Rattle.tile.specs.Laws.Held.{Sums, sums-of-holds, sums-length, sums-in-range}
+use Rattle.tile.specs.Laws.AskedContour.{contour-count, contour-coordinates}
+use Rattle.tile.specs.Laws.Kept.{corrected-is, holds-put, left-in-range}
+
+-- ---- in a tile that holds contours
+module _ {side : ℕ} {cs : List Contour} {t : Tile} (h : HoldsContours side cs t) where
+  yes1 : Yes (question1 side)
+  yes1 = sums-of-holds h .is-side
+
+  yes2 : Yes (question2 side (t .table))
+  yes2 = question2-means side (t .table) .1 (sums-length (sums-of-holds h))
+
+  -- the table is in range, and so is the one that a call would leave
+  yes9 : (k : Call) → k .side ≡ side → All Yes (contourQuestions k t) → Yes (question9Twice (t .table) (wouldLeave k t))
+  yes9 k same y = ap₂ _&&_ (sums-in-range (sums-of-holds h)) (left-in-range k t y (subst⁻¹ (λ s. Sums s cs t) same (sums-of-holds h)))
+
+  -- whatever its side: another is refused by question 1 or 2
+  pub never-9 : (k : Call) → correctRefusal k t ≢ 9
+  never-9 k n =
+      let nine = question9Twice (t .table) (wouldLeave k t) in
+      let thirteen = question13 (takenOut (k .change) (k .count)) (t .edges) ∷ [] in
+      let asked = contourQuestions k t ++ thirteen in
+      let d = correcting-refusals k t .refused9 .0 n in
+      let y = all-front Yes (contourQuestions k t) thirteen (decided-yes asked nine d) in
+      let same = square-injective (k .side) side (sym (question2-means (k .side) (t .table) .0 (y .1 .0)) ∙ sums-length (sums-of-holds h)) in
+      true≢false (sym (yes9 k same y) ∙ decided-no asked nine d)
+
+  -- questions 13 and 9 come after those about the contour
+  accepted-by : (k : Call) → k .side ≡ side → All Yes (contourQuestions k t) → Yes (question13 (takenOut (k .change) (k .count)) (t .edges))
+      → correctRefusal k t ≡ 0
+  accepted-by k same y out = correcting-refusals k t .accepted .1 (all-append Yes (contourQuestions k t) (tileQuestions k t) y (out, (yes9 k same y, tt)))
+
+  -- what is left to ask is about the call itself, and whether there are too many edges
+  module _ (points : List ℤ) (count : ℕ) (placement : Placement) where
+    abbrev putIn : Call
+    putIn = putting side points count placement
+
+    pub put-accepted : Yes (question4 (count ∷ [])) → Yes (question5Beside (t .edges) (count ∷ [])) → Yes (question3 points (count ∷ []))
+        → Yes (question12 placement points) → Yes (question6 side (placed placement points)) → correctRefusal putIn t ≡ 0
+    put-accepted yes4 yes5 yes3 yes12 yes6 =
+        accepted-by putIn refl (yes1, (yes2, (yes4, (yes5, (yes3, (yes12, (yes6, tt))))))) (le-leb 0 (t .edges) (omega arith))
+
+    -- A contour that is in: what is left to ask is only that there are two coordinates for each point, and that the placement is one.
+    module _ {others : List Contour} (p : Perm cs (pointsOf (placed placement points) ∷ others)) (yes3 : Yes (question3 points (count ∷ [])))
+        (yes12 : Yes (question12 placement points)) where
+      abbrev takeOut : Call
+      takeOut = taking side points count placement
+
+      abbrev contour : Contour
+      contour = contourOf takeOut
+
+      counted : tally length cs ≡ count + tally length others
+      unfolding tally
+      counted = tally-perm length p ∙ ap (λ n. n + tally length others) (contour-count takeOut yes3)
+
+      right : Yes (question4 (length contour ∷ [])) × Yes (question6 side (coordinatesOf contour))
+      right =
+          let all : every (isContour side) (contour ∷ others) ≡ true = sym (every-perm (isContour side) p) ∙ sums-of-holds h .right in
+          and-true-means (question4 (length contour ∷ []) .answer) (question6 side (coordinatesOf contour) .answer) .0
+          (and-true-means (isContour side contour) (every (isContour side) others) .0 all .0)
+
+      pub take-accepted : correctRefusal takeOut t ≡ 0
+      unfolding tally
+      take-accepted =
+          let s = sums-of-holds h in
+          let yes4 = ap (λ n. question4 (n ∷ []) .answer) (sym (contour-count takeOut yes3)) ∙ right .0 in
+          let yes6 = ap (λ l. question6 side l .answer) (sym (contour-coordinates takeOut yes3)) ∙ right .1 in
+          let few = le-leb (0 + edgeCount (count ∷ [])) mostEdges (omega (arith, s .few, counted)) in
+          accepted-by takeOut refl (yes1, (yes2, (yes4, (few, (yes3, (yes12, (yes6, tt)))))))
+          (le-leb count (t .edges) (omega (arith, s .adds-up .edges-is, counted)))
+
+  -- whatever placement it was put in with
+  pub take-as-it-lies : (c : Contour) {others : List Contour} → Perm cs (c ∷ others) → correctRefusal (taking side (coordinatesOf c) (length c) None) t ≡ 0
+  unfolding tally
+  take-as-it-lies c {others} p =
+      let same : pointsOf (placed None (coordinatesOf c)) ≡ c = ap pointsOf (placed-none (coordinatesOf c)) ∙ back-points c in
+      take-accepted (coordinatesOf c) (length c) None (subst⁻¹ (λ d. Perm cs (d ∷ others)) same p)
+      (question3-means (coordinatesOf c) (length c ∷ []) .1 (coordinatesOf-length c ∙ omega arith)) refl
+
+-- ---- an example, on a tile of 2 pixels: a triangle at its upper right, which is put in from one pixel further left, and a square that remains
+abbrev triangle : List ℤ
+triangle = pos 256 ∷ pos 0 ∷ pos 512 ∷ pos 0 ∷ pos 256 ∷ pos 256 ∷ []
+
+abbrev square : List ℤ
+square = pos 0 ∷ pos 256 ∷ pos 256 ∷ pos 256 ∷ pos 256 ∷ pos 512 ∷ pos 0 ∷ pos 512 ∷ []
+
+-- nothing is in yet; and another side
+abbrev early : Call
+early = taking 2 triangle 3 None
+
+abbrev elsewhere : Call
+elsewhere = putting 4 triangle 3 None
+
+abbrev shifted : Call
+shifted = putting 2 (pos 0 ∷ pos 0 ∷ pos 256 ∷ pos 0 ∷ pos 0 ∷ pos 256 ∷ []) 3 (Shift (fin false 1 (pos 8)) (fin false 0 (pos 0)))
+
+abbrev plain : Call
+plain = putting 2 square 4 None
+
+abbrev lying : Call
+lying = taking 2 triangle 3 None
+
+too-early : correctRefusal early (emptyTile 2) ≡ 13
+unfolding placed tally
+too-early = refl
+
+other-side : correctRefusal elsewhere (emptyTile 2) ≡ 2
+other-side = refl
+
+same-contour : contourOf shifted ≡ contourOf lying
+unfolding placed partsOf roundHalfUp floor pointsOf
+same-contour = refl
+
+pub example : Series (emptyTile 2) [] (early ∷ elsewhere ∷ shifted ∷ plain ∷ lying ∷ []) (contourOf plain ∷ [])
+unfolding placed pointsOf partsOf isMultiple roundHalfUp floor tally
+example =
+    let empty : HoldsContours 2 [] (emptyTile 2) = holds-empty 2 refl in
+    let first : correctRefusal shifted (emptyTile 2) ≡ 0 = put-accepted empty (shifted .points) 3 (shifted .placement) refl refl refl refl refl in
+    let one = corrected shifted (emptyTile 2) in
+    let holds-one = holds-put shifted (emptyTile 2) first refl empty in
+    let few : question5Beside (one .edges) (4 ∷ []) .answer ≡ true =
+    ap (λ t. question5Beside (t .edges) (4 ∷ []) .answer) (corrected-is shifted (emptyTile 2) first Put refl) in
+    let second = put-accepted holds-one square 4 None refl few refl refl refl in
+    let two = corrected plain one in
+    let holds-two = holds-put plain one second refl holds-one in
+    let p : Perm (contourOf plain ∷ contourOf shifted ∷ []) (contourOf lying ∷ contourOf plain ∷ []) =
+    subst (λ c. Perm (contourOf plain ∷ contourOf shifted ∷ []) (c ∷ contourOf plain ∷ [])) same-contour (Perm·swap (contourOf shifted) (contourOf plain) []) in
+    let out = take-accepted holds-two triangle 3 None p refl refl in
+    refused (λ z. absurd (omega (arith, sym too-early ∙ z)))
+    (refused (λ z. absurd (omega (arith, sym other-side ∙ z))) (put first refl (put second refl (taken out refl p none))))
