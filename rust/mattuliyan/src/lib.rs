@@ -20,12 +20,18 @@
 //!
 //! A letter from a sheet that lay askew is straightened by a [`Placement`], which [`build_placed`] takes with the outline.
 //!
+//! A [`Tile`] is a table with a record of its edge count. Contours are put into it and taken out again, to remove a speck or to put a missing
+//! dot back, and it is then the tile that building the contours that remain would make. [`put`] and [`take`] are the same for a table and a
+//! record of one's own.
+//!
 //! Every input is answered: the work is done, or the call is refused, and a [`Refusal`] says why.
 #![warn(missing_docs)]
 
 mod refusal;
+mod tile;
 
 pub use refusal::Refusal;
+pub use tile::Tile;
 
 /// `include/mattuliyan.h` of the crate `tile_c`, which says what a caller owes: what every slice of Rust gives, and floats as a program
 /// starts with them.
@@ -52,6 +58,28 @@ mod c {
             table: *mut i64,
             table_length: usize,
             edges: *mut u32,
+        ) -> u32;
+        pub fn mattuliyan_put(
+            side: u32,
+            points: *const i64,
+            points_length: usize,
+            count: u32,
+            placement: *const f64,
+            placement_length: usize,
+            edges: *mut u32,
+            table: *mut i64,
+            table_length: usize,
+        ) -> u32;
+        pub fn mattuliyan_take(
+            side: u32,
+            points: *const i64,
+            points_length: usize,
+            count: u32,
+            placement: *const f64,
+            placement_length: usize,
+            edges: *mut u32,
+            table: *mut i64,
+            table_length: usize,
         ) -> u32;
         pub fn mattuliyan_figures(
             side: u32,
@@ -127,6 +155,16 @@ pub enum Placement {
     Turn([f64; 6]),
 }
 
+/// Makes a call with a placement as C takes it: how many numbers there are says what is done with them.
+fn by_numbers<T>(placement: Placement, call: impl FnOnce(&[f64]) -> T) -> T {
+    match placement {
+        Placement::None => call(&[]),
+        Placement::Shift(x, y) => call(&[x, y]),
+        Placement::Scale(factor) => call(&[factor]),
+        Placement::Turn(numbers) => call(&numbers),
+    }
+}
+
 /// Builds the table of an outline that is placed first; all else is as with [`build`].
 ///
 /// ```
@@ -162,13 +200,7 @@ pub fn build_placed(
     placement: Placement,
     table: &mut [i64],
 ) -> Result<u32, Refusal> {
-    let numbers: &[f64] = match placement {
-        Placement::None => &[],
-        Placement::Shift(x, y) => &[x, y],
-        Placement::Scale(factor) => &[factor],
-        Placement::Turn(ref numbers) => numbers,
-    };
-    build_by_numbers(side, points, counts, numbers, table)
+    by_numbers(placement, |numbers| build_by_numbers(side, points, counts, numbers, table))
 }
 
 /// [`build_placed`] as C has it, a placement being told by how many numbers it has; another length is 12. It is for tests, which lend numbers
@@ -199,6 +231,117 @@ pub fn build_by_numbers(
         )
     };
     answer(number, edges)
+}
+
+/// Puts a contour into a tile, a table with a record of its edge count: `points` has x and y of each of its `count` points in turn, in steps,
+/// and the contour is these as placed. What it adds to each entry is added to the table, and its count to `edges`, the record. A tile begins with
+/// a table of zeros and a record of 0, or with what [`build`] or [`build_placed`] left and answered. [`Tile`] keeps the two together.
+///
+/// ```
+/// # fn main() -> Result<(), Box<dyn std::error::Error>> {
+/// use mattuliyan::Placement;
+///
+/// // the stroke of an i on a tile of 4 pixels, built as a letter is
+/// let stroke = [256, 512, 512, 512, 512, 1024, 256, 1024];
+/// let (mut table, mut picture) = ([0; 16], [0; 16]);
+/// let mut edges = mattuliyan::build(4, &stroke, &[4], &mut table)?;
+///
+/// // its dot is put back: a square of a pixel, shifted to its place
+/// let square = [0, 0, 256, 0, 256, 256, 0, 256];
+/// mattuliyan::put(4, &square, 4, Placement::Shift(256.0, 0.0), &mut edges, &mut table)?;
+/// mattuliyan::greys(4, 2, &table, &mut picture)?;
+/// assert_eq!(picture, [0, 255, 0, 0, 0, 0, 0, 0, 0, 255, 0, 0, 0, 255, 0, 0]);
+/// assert_eq!(edges, 8);
+///
+/// // and taken out again, under another placement that leads to the same points
+/// let dot = [256, 0, 512, 0, 512, 256, 256, 256];
+/// mattuliyan::take(4, &dot, 4, Placement::None, &mut edges, &mut table)?;
+/// assert_eq!(edges, 4);
+///
+/// // more edges than are in cannot be taken out
+/// let five = [0, 0, 256, 0, 256, 256, 128, 256, 0, 256];
+/// let refused = mattuliyan::take(4, &five, 5, Placement::None, &mut edges, &mut table);
+/// assert_eq!(refused.map_err(|refusal| refusal.number()), Err(13));
+/// # Ok(())
+/// # }
+/// ```
+pub fn put(
+    side: u32,
+    points: &[i64],
+    count: u32,
+    placement: Placement,
+    edges: &mut u32,
+    table: &mut [i64],
+) -> Result<(), Refusal> {
+    by_numbers(placement, |numbers| put_by_numbers(side, points, count, numbers, edges, table))
+}
+
+/// Takes a contour out of a tile again: as [`put`], with its values taken from the table and its count from `edges`, the record. A contour is
+/// known by its points as placed, so it may be taken out under another placement than it was put in, if that leads to the same points. Only a
+/// contour that is in should be taken out: the call cannot tell, and takes out any whose count the record allows.
+pub fn take(
+    side: u32,
+    points: &[i64],
+    count: u32,
+    placement: Placement,
+    edges: &mut u32,
+    table: &mut [i64],
+) -> Result<(), Refusal> {
+    by_numbers(placement, |numbers| take_by_numbers(side, points, count, numbers, edges, table))
+}
+
+/// [`put`] as C has it; for tests, as [`build_by_numbers`] is.
+#[doc(hidden)]
+pub fn put_by_numbers(
+    side: u32,
+    points: &[i64],
+    count: u32,
+    numbers: &[f64],
+    edges: &mut u32,
+    table: &mut [i64],
+) -> Result<(), Refusal> {
+    // SAFETY: as in `build`; and the record is a place of its own, lent to be read and written.
+    let number = unsafe {
+        c::mattuliyan_put(
+            side,
+            points.as_ptr(),
+            points.len(),
+            count,
+            numbers.as_ptr(),
+            numbers.len(),
+            edges,
+            table.as_mut_ptr(),
+            table.len(),
+        )
+    };
+    answer(number, ())
+}
+
+/// [`take`] as C has it, likewise.
+#[doc(hidden)]
+pub fn take_by_numbers(
+    side: u32,
+    points: &[i64],
+    count: u32,
+    numbers: &[f64],
+    edges: &mut u32,
+    table: &mut [i64],
+) -> Result<(), Refusal> {
+    // SAFETY: as in `put_by_numbers`.
+    let number = unsafe {
+        c::mattuliyan_take(
+            side,
+            points.as_ptr(),
+            points.len(),
+            count,
+            numbers.as_ptr(),
+            numbers.len(),
+            edges,
+            table.as_mut_ptr(),
+            table.len(),
+        )
+    };
+    answer(number, ())
 }
 
 /// Draws the figures of a level, row by row from the top left: 4^level times each cell's area, in units of which 131,072 are a pixel.

@@ -7,13 +7,14 @@ macro_rules! questions {
     ($($number:literal $question:literal)*) => {
         const QUESTIONS: &[(u8, &str)] = &[$(($number, $question)),*];
 
-        /// A call that is refused: the first of its questions that is answered no. Then no slice has changed.
+        /// A call that is refused: the first of its questions that is answered no. Then no slice and no record has changed.
         ///
         /// | | |
         /// |---|---|
         $(#[doc = concat!("| ", $number, " | ", $question, " |")])*
         ///
         /// [`build`](crate::build) asks 1, 2, 4, 5, 3, 6; [`build_placed`](crate::build_placed) 1, 2, 4, 5, 3, 12, 6;
+        /// [`put`](crate::put) 1, 2, 4, 5, 3, 12, 6, 9; [`take`](crate::take) 1, 2, 4, 5, 3, 12, 6, 13, 9;
         /// [`figures`](crate::figures) and [`greys`](crate::greys) 1, 2, 7, 8, 9; [`cell`](crate::cell) 1, 2, 7, 10, 9.
         #[derive(Clone, Copy, Debug, PartialEq, Eq)]
         pub struct Refusal {
@@ -28,14 +29,15 @@ questions! {
     2 "Has the table exactly side × side entries?"
     3 "Are the points exactly twice as many numbers as the counts' sum?"
     4 "Is every count from 3 to 1,024?"
-    5 "Is the counts' sum at most 1,024?"
+    5 "Is the counts' sum (for putting in, with the record's count) at most 1,024?"
     6 "Is every coordinate, as placed, from 0 to 256 × side?"
     7 "Is the level at most the depth, the number of halvings from the side to 1?"
     8 "Has the picture exactly 4^level places?"
-    9 "Is every entry of the table from −2^40 to 2^40?"
+    9 "Is every entry of the table (for putting in and taking out, also of the table that would be left) from −2^40 to 2^40?"
     10 "Are both cell numbers below 2^level?"
     12 "Is every number of the placement a multiple of 1/65,536 in its range (factors from −2 to 2, offsets from −16,384 to \
         16,384), and every coordinate that is moved from −32,768 to 32,767?"
+    13 "Does the record count at least as many edges as are taken out?"
 }
 
 impl Refusal {
@@ -66,7 +68,7 @@ mod tests {
     #[test]
     fn only_the_listed_numbers_are_refusals() {
         let numbers: Vec<u32> = (0..=300).filter(|&number| Refusal::of(number).is_some()).collect();
-        assert_eq!(numbers, [1, 2, 3, 4, 5, 6, 7, 8, 9, 10, 12]);
+        assert_eq!(numbers, [1, 2, 3, 4, 5, 6, 7, 8, 9, 10, 12, 13]);
         assert!(numbers.iter().all(|&number| u32::from(Refusal::of(number).unwrap().number()) == number));
         assert_eq!(Refusal::of(u32::MAX), None);
     }
@@ -75,5 +77,8 @@ mod tests {
     fn a_refusal_says_its_question() {
         let said = Refusal::of(4).unwrap().to_string();
         assert_eq!(said, "refused 4. Is every count from 3 to 1,024? No.");
+        // a question that is written on two lines is said on one
+        let said = Refusal::of(12).unwrap().to_string();
+        assert!(said.contains(" offsets from −16,384 to 16,384), and ") && said.ends_with(" 32,767? No."), "{said}");
     }
 }

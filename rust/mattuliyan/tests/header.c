@@ -1,9 +1,62 @@
-/* 01's letter F through the C header, its letter G by a shift, and a refusal of each call: prints what is answered and left, one line a
- * call. */
+/* 01's letter F through the C header, its letter G by a shift, G put in and taken out, and refusals of each call: prints what is answered and
+ * left, one line a call. */
 #include "mattuliyan.h"
 
 #include <inttypes.h>
 #include <stdio.h>
+
+/* What a correction answers, and the record and the table that it leaves. */
+static void print_tile(uint32_t number, uint32_t edges, const int64_t *table) {
+    printf("%" PRIu32 " %" PRIu32, number, edges);
+    for (int i = 0; i < 4; i++) printf(" %" PRId64, table[i]);
+    printf("\n");
+}
+
+/* Puts letters into a tile that holds F and takes them out. */
+static void correct(void) {
+    const int64_t most = INT64_C(1) << 40; /* that question 9 lets pass */
+    const int64_t f[] = {0, 0, 384, 1, 0, 1}, g[] = {255, 0, 259, 1, 255, 1};
+    const int64_t g_off_by_halves[] = {0, 7, 4, 8, 0, 8};
+    const double shift[] = {254.5, -7.5, 0};
+    int64_t table[] = {384, 299, 384, 299};
+    uint32_t edges = 3, number;
+
+    /* putting in: refused for its placement and its edges, done, and refused for entry 0, before the call and after it */
+    number = mattuliyan_put(2, g_off_by_halves, 6, 3, shift, 3, &edges, table, 4);
+    print_tile(number, edges, table);
+    edges = 1022;
+    number = mattuliyan_put(2, g_off_by_halves, 6, 3, shift, 2, &edges, table, 4);
+    print_tile(number, edges, table);
+    edges = 3;
+    number = mattuliyan_put(2, g_off_by_halves, 6, 3, shift, 2, &edges, table, 4);
+    print_tile(number, edges, table);
+    table[0] = most + 1;
+    number = mattuliyan_put(2, g, 6, 3, shift, 0, &edges, table, 4);
+    print_tile(number, edges, table);
+    table[0] = most - 3; /* G has 4 there */
+    number = mattuliyan_put(2, g, 6, 3, shift, 0, &edges, table, 4);
+    print_tile(number, edges, table);
+    table[0] = 388;
+
+    /* taking out: refused for its points, done under another placement, and refused for entry 2, before the call and after it */
+    number = mattuliyan_take(2, g, 5, 3, shift, 0, &edges, table, 4);
+    print_tile(number, edges, table);
+    number = mattuliyan_take(2, g, 6, 3, shift, 0, &edges, table, 4);
+    print_tile(number, edges, table);
+    table[2] = -most - 1;
+    number = mattuliyan_take(2, f, 6, 3, shift, 0, &edges, table, 4);
+    print_tile(number, edges, table);
+    table[2] = 383 - most; /* F has 384 there */
+    number = mattuliyan_take(2, f, 6, 3, shift, 0, &edges, table, 4);
+    print_tile(number, edges, table);
+    table[2] = 384;
+
+    /* the last contour is taken out, and then there is none left */
+    number = mattuliyan_take(2, f, 6, 3, shift, 0, &edges, table, 4);
+    print_tile(number, edges, table);
+    number = mattuliyan_take(2, f, 6, 3, shift, 0, &edges, table, 4);
+    print_tile(number, edges, table);
+}
 
 int main(void) {
     const int64_t points[] = {0, 0, 384, 1, 0, 1};
@@ -37,5 +90,6 @@ int main(void) {
     printf("%" PRIu32 " %" PRId64 "\n", number, figure);
     number = mattuliyan_cell(2, 1, 1, 0, table, 4, &figure);
     printf("%" PRIu32 " %" PRId64 "\n", number, figure);
+    correct();
     return 0;
 }

@@ -75,7 +75,7 @@ fn declarations_agree() {
     let header = in_one_line(&read("crates/tile_c/include/mattuliyan.h"));
     let wrapper = in_one_line(&read("rust/mattuliyan/src/lib.rs"));
     let exported = between(&source, "#[no_mangle] pub extern \"C\" fn ", " ensures ");
-    assert_eq!(exported.len(), 5);
+    assert_eq!(exported.len(), 7);
 
     let mut in_c = Vec::new();
     let mut in_rust = Vec::new();
@@ -137,13 +137,30 @@ fn printed_in_c(name: &str) -> String {
 #[test]
 fn answers_in_c() {
     let answers = "3 0 7\n12 0 7\n0 3 4 0 4 0\n0 3 384 299 384 299\n8 7\n0 1366 170 0 0\n7 7\n0 1 0 0 0\n10 0\n0 170\n";
-    assert_eq!(printed_in_c("header"), answers);
+    // number, record and table after each; 2^40 is 1,099,511,627,776
+    let put = [
+        "12 3 384 299 384 299",
+        "5 1022 384 299 384 299",
+        "0 6 388 299 388 299",
+        "9 6 1099511627777 299 388 299",
+        "9 6 1099511627773 299 388 299",
+    ];
+    let taken = [
+        "3 6 388 299 388 299",
+        "0 3 384 299 384 299",
+        "9 3 384 299 -1099511627777 299",
+        "9 3 384 299 -1099511627393 299",
+        "0 0 0 0 0 0",
+        "13 0 0 0 0 0",
+    ];
+    let corrections: String = put.into_iter().chain(taken).map(|line| format!("{line}\n")).collect();
+    assert_eq!(printed_in_c("header"), answers.to_string() + &corrections);
 }
 
 #[test]
 fn no_entry_is_read_after_the_first_out_of_range() {
     let printed = printed_in_c("reads");
-    assert_eq!(printed.lines().count(), 3 * 16);
+    assert_eq!(printed.lines().count(), 5 * 16);
     for line in printed.lines() {
         // where the last entry of all is in range, there is none after it to be read
         let expected = if line.contains(" 4095:") { "9 0" } else { "9 x" };

@@ -1,5 +1,6 @@
-//! A placement as C takes it, in every length near the right ones: others than 0, 1, 2 and 6 are 12, in that question's place.
-use mattuliyan::{build_by_numbers, build_placed, Placement};
+//! Lists as C takes them, in every length near the right ones. A placement of another length than 0, 1, 2 and 6 is 12, in that question's place;
+//! points and tables have one right length each, and what is refused for them is the first of these.
+use mattuliyan::{build_by_numbers, build_placed, put, put_by_numbers, take, take_by_numbers, Placement, Refusal};
 
 /// On a tile of 1 pixel, 01's letter C.
 const POINTS: [i64; 6] = [0, 0, 256, 0, 0, 256];
@@ -8,6 +9,21 @@ fn answered(points: &[i64], numbers: &[f64]) -> (Result<u32, u8>, [i64; 1]) {
     let mut table = [7];
     let answer = build_by_numbers(1, points, &[3], numbers, &mut table);
     (answer.map_err(|refusal| refusal.number()), table)
+}
+
+/// Putting the letter in, with a record of 3 and an entry of 7, and taking it out: number, record and entry.
+type Corrected = (Result<(), u8>, u32, [i64; 1]);
+
+fn corrected(points: &[i64], numbers: &[f64]) -> [Corrected; 2] {
+    [put_by_numbers, take_by_numbers].map(|call| {
+        let (mut edges, mut table) = (3, [7]);
+        let answer = call(1, points, 3, numbers, &mut edges, &mut table);
+        (answer.map_err(Refusal::number), edges, table)
+    })
+}
+
+fn refused(number: u8) -> [Corrected; 2] {
+    [(Err(number), 3, [7]); 2]
 }
 
 #[test]
@@ -23,10 +39,18 @@ fn lengths_of_no_placement_are_refused() {
             _ => (Err(12), [7]),
         };
         assert_eq!(answered(&POINTS, numbers), expected, "{length} numbers");
+        // the same values are added and taken off, and the same is refused
+        let expected = match expected {
+            (Ok(count), [value]) => [(Ok(()), 3 + count, [7 + value]), (Ok(()), 3 - count, [7 - value])],
+            (Err(number), _) => refused(number),
+        };
+        assert_eq!(corrected(&POINTS, numbers), expected, "{length} numbers");
     }
     // a length whose low byte is right
-    assert_eq!(answered(&POINTS, &[0.0; 256]), (Err(12), [7]));
-    assert_eq!(answered(&POINTS, &[0.0; 256 + 6]), (Err(12), [7]));
+    for numbers in [&[0.0; 256][..], &[0.0; 256 + 6]] {
+        assert_eq!(answered(&POINTS, numbers), (Err(12), [7]));
+        assert_eq!(corrected(&POINTS, numbers), refused(12));
+    }
 }
 
 #[test]
@@ -35,7 +59,44 @@ fn a_wrong_length_is_asked_for_after_3_and_before_6() {
     assert_eq!(answered(&off_the_tile, &[]), (Err(6), [7]));
     assert_eq!(answered(&off_the_tile, &[1.0; 3]), (Err(12), [7]));
     assert_eq!(answered(&POINTS[..5], &[1.0; 3]), (Err(3), [7]));
+    assert_eq!(corrected(&off_the_tile, &[]), refused(6));
+    assert_eq!(corrected(&off_the_tile, &[1.0; 3]), refused(12));
+    assert_eq!(corrected(&POINTS[..5], &[1.0; 3]), refused(3));
 }
+
+#[test]
+fn contours_and_tables_of_every_length() {
+    let points: Vec<i64> = POINTS.repeat(3);
+    for call in [put, take] {
+        for length in 0..=points.len() {
+            for count in 0..=points.len() as u32 {
+                for entries in 0..3 {
+                    let (mut edges, mut table) = (100, vec![7; entries]);
+                    let answer = call(1, &points[..length], count, Placement::None, &mut edges, &mut table);
+                    let expected = match (entries, count, length) {
+                        (0 | 2, _, _) => Err(2),
+                        (_, 0..3, _) => Err(4),
+                        _ if length != 2 * count as usize => Err(3),
+                        _ => Ok(()),
+                    };
+                    assert_eq!(answer.map_err(Refusal::number), expected, "{length}, {count}, {entries}");
+                    assert!(expected.is_ok() || (edges, table) == (100, vec![7; entries]));
+                }
+            }
+        }
+    }
+    // nothing at all
+    for (side, count, expected) in [(0, 0, 1), (1, 0, 2), (64, u32::MAX, 2)] {
+        for call in [put, take] {
+            let mut edges = 0;
+            let answer = call(side, &[], count, Placement::None, &mut edges, &mut []);
+            assert_eq!((answer.map_err(Refusal::number), edges), (Err(expected), 0));
+        }
+    }
+}
+
+type Typed = fn(u32, &[i64], u32, Placement, &mut u32, &mut [i64]) -> Result<(), Refusal>;
+type ByNumbers = fn(u32, &[i64], u32, &[f64], &mut u32, &mut [i64]) -> Result<(), Refusal>;
 
 #[test]
 fn each_placement_has_its_length() {
@@ -53,6 +114,13 @@ fn each_placement_has_its_length() {
         assert_eq!(build_placed(2, &points, &[3], placement, &mut table), Ok(3));
         assert_eq!(build_by_numbers(2, &points, &[3], numbers, &mut expected), Ok(3));
         assert_eq!(table, expected, "{placement:?}");
+        for (call, by_numbers, sign) in [(put as Typed, put_by_numbers as ByNumbers, 1), (take, take_by_numbers, -1)] {
+            let (mut tile, mut other) = ((3, [0; 4]), (3, [0; 4]));
+            assert_eq!(call(2, &points, 3, placement, &mut tile.0, &mut tile.1), Ok(()));
+            assert_eq!(by_numbers(2, &points, 3, numbers, &mut other.0, &mut other.1), Ok(()));
+            assert_eq!((tile, tile.0), (other, if sign == 1 { 6 } else { 0 }), "{placement:?}");
+            assert_eq!(tile.1, table.map(|entry| sign * entry), "{placement:?}");
+        }
         tables.push(table);
     }
     assert!((0..4).all(|i| !tables[..i].contains(&tables[i])), "placements that are not told apart: {tables:?}");

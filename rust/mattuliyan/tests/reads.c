@@ -23,19 +23,33 @@ static const int64_t most = INT64_C(1) << 40; /* that question 9 lets pass */
 
 static int64_t *end; /* of what can be read */
 
-static uint32_t figures(const int64_t *table) {
+static uint32_t figures(int64_t *table) {
     static int64_t picture[ENTRIES];
     return mattuliyan_figures(SIDE, LEVEL, table, ENTRIES, picture, ENTRIES);
 }
 
-static uint32_t greys(const int64_t *table) {
+static uint32_t greys(int64_t *table) {
     static uint8_t picture[ENTRIES];
     return mattuliyan_greys(SIDE, LEVEL, table, ENTRIES, picture, ENTRIES);
 }
 
-static uint32_t cell(const int64_t *table) {
+static uint32_t cell(int64_t *table) {
     int64_t figure;
     return mattuliyan_cell(SIDE, LEVEL, 5, 9, table, ENTRIES, &figure);
+}
+
+/* Three times the same point: a contour without values, which leaves every entry in range. */
+static const int64_t points[] = {5, 9, 5, 9, 5, 9};
+static const double placement[] = {1};
+
+static uint32_t put(int64_t *table) {
+    uint32_t edges = 3;
+    return mattuliyan_put(SIDE, points, 6, 3, placement, 1, &edges, table, ENTRIES);
+}
+
+static uint32_t take(int64_t *table) {
+    uint32_t edges = 3;
+    return mattuliyan_take(SIDE, points, 6, 3, placement, 1, &edges, table, ENTRIES);
 }
 
 static void fail(const char *what) {
@@ -49,7 +63,7 @@ static void stop(int signal, siginfo_t *information, void *context) {
 }
 
 /* Makes a call in a process of its own, and prints its answer. */
-static void answer(uint32_t (*call)(const int64_t *), const int64_t *table) {
+static void answer(uint32_t (*call)(int64_t *), int64_t *table) {
     int status;
     pid_t child = fork();
     if (child < 0) fail("fork");
@@ -60,8 +74,8 @@ static void answer(uint32_t (*call)(const int64_t *), const int64_t *table) {
 }
 
 int main(void) {
-    static uint32_t (*const calls[])(const int64_t *) = {figures, greys, cell};
-    static const char *const names[] = {"figures", "greys", "cell"};
+    static uint32_t (*const calls[])(int64_t *) = {figures, greys, cell, put, take};
+    static const char *const names[] = {"figures", "greys", "cell", "put", "take"};
     static const size_t places[] = {0, 1, 2, 3, 4, 7, 8, 15, 16, 63, 64, 511, 512, 1000, ENTRIES - 2, ENTRIES - 1};
     const struct sigaction action = {.sa_sigaction = stop, .sa_flags = SA_SIGINFO};
     const size_t page = (size_t)sysconf(_SC_PAGESIZE);

@@ -1,0 +1,144 @@
+//! A tile for people: a table with the record of its edge count.
+use crate::{Placement, Refusal};
+
+/// The greatest side of a tile.
+const GREATEST_SIDE: u32 = 64;
+
+/// A tile that owns its table and the record of its edge count. A letter is corrected in it, contour by contour.
+///
+/// ```
+/// # fn main() -> Result<(), Box<dyn std::error::Error>> {
+/// use mattuliyan::{Placement, Tile};
+///
+/// // an i without its dot on a tile of 4 pixels, and a speck beside it
+/// let stroke = [256, 512, 512, 512, 512, 1024, 256, 1024];
+/// let speck = [900, 900, 930, 900, 930, 930];
+/// let points = [&stroke[..], &speck].concat();
+/// let mut tile = Tile::build(4, &points, &[4, 3], Placement::None)?;
+///
+/// // the speck is taken out, and the dot put back
+/// tile.take(&speck, Placement::None)?;
+/// let dot = [0, 0, 256, 0, 256, 256, 0, 256];
+/// tile.put(&dot, Placement::Shift(256.0, 0.0))?;
+///
+/// // it is the tile that building the corrected letter makes
+/// let placed_dot = [256, 0, 512, 0, 512, 256, 256, 256];
+/// let points = [placed_dot, stroke].concat();
+/// assert_eq!(tile, Tile::build(4, &points, &[4, 4], Placement::None)?);
+/// assert_eq!(tile.edges(), 8);
+/// assert_eq!(tile.greys(2)?, [0, 255, 0, 0, 0, 0, 0, 0, 0, 255, 0, 0, 0, 255, 0, 0]);
+/// # Ok(())
+/// # }
+/// ```
+///
+/// No field is public, so nothing but [`put`](Tile::put) and [`take`](Tile::take) writes to a tile once it is made. So for every tile, after any
+/// series of calls in which each contour that was taken out had been put in, or built, and not yet taken out, table and edge count are those of
+/// building the contours that remain, in any order, and what is drawn is as near to the ink as what is drawn afresh. A call that is refused
+/// changes nothing.
+///
+/// What cannot be told is whether a contour is in, for a tile does not keep its contours. One that is not in is taken out like any other, if it has
+/// no more edges than are in; after that, table and edge count need not be those of any outline, until that contour is put in.
+///
+/// Tiles are equal where side, edge count and table are: then every picture is the same.
+#[derive(Clone, Debug, PartialEq, Eq)]
+pub struct Tile {
+    side: u32,
+    edges: u32,
+    table: Vec<i64>,
+}
+
+impl Tile {
+    /// A tile with nothing in it. It is refused (1) where the side is none that a tile has.
+    pub fn new(side: u32) -> Result<Tile, Refusal> {
+        Tile::build(side, &[], &[], Placement::None)
+    }
+
+    /// The tile of an outline as placed: `points` has x and y of each point in turn, in steps, and `counts` how many points each contour has.
+    pub fn build(side: u32, points: &[i64], counts: &[u32], placement: Placement) -> Result<Tile, Refusal> {
+        // The side is asked for before the table's length, so one that is too great needs no table of its own.
+        let across = side.min(GREATEST_SIDE);
+        let mut table = vec![0; (across * across) as usize];
+        let edges = crate::build_placed(side, points, counts, placement, &mut table)?;
+        Ok(Tile { side, edges, table })
+    }
+
+    /// Puts a contour in: its points as placed, `points` having x and y of each in turn, in steps.
+    ///
+    /// It has a point for every two numbers, from 3 to 1,024 points (else 4), and the edges that are in and its own are at most 1,024 (else 5).
+    /// A last x without a y is refused (3).
+    pub fn put(&mut self, points: &[i64], placement: Placement) -> Result<(), Refusal> {
+        crate::put(self.side, points, count(points.len()), placement, &mut self.edges, &mut self.table)
+    }
+
+    /// Takes a contour out again, as [`put`](Tile::put) put it in. It is known by its points as placed, so it may be taken out under another
+    /// placement that leads to the same points. More edges than are in are refused (13); a contour that is not in is not.
+    pub fn take(&mut self, points: &[i64], placement: Placement) -> Result<(), Refusal> {
+        crate::take(self.side, points, count(points.len()), placement, &mut self.edges, &mut self.table)
+    }
+
+    /// Pixels a side.
+    pub fn side(&self) -> u32 {
+        self.side
+    }
+
+    /// How many edges are in: at most 1,024.
+    pub fn edges(&self) -> u32 {
+        self.edges
+    }
+
+    /// The table of Haar coefficients, side × side entries, as [`figures`](crate::figures) and its like take it.
+    pub fn table(&self) -> &[i64] {
+        &self.table
+    }
+
+    /// The figures of a level, 2^level rows and columns, as [`figures`](crate::figures) draws them. A level that the tile does not have is
+    /// refused (7), and no other is.
+    pub fn figures(&self, level: u32) -> Result<Vec<i64>, Refusal> {
+        let mut picture = vec![0; self.places(level)];
+        crate::figures(self.side, level, &self.table, &mut picture)?;
+        Ok(picture)
+    }
+
+    /// The greys of a level, likewise, as [`greys`](crate::greys) draws them.
+    pub fn greys(&self, level: u32) -> Result<Vec<u8>, Refusal> {
+        let mut picture = vec![0; self.places(level)];
+        crate::greys(self.side, level, &self.table, &mut picture)?;
+        Ok(picture)
+    }
+
+    /// The figure of one cell, column `cx` and row `cy` of the level.
+    pub fn cell(&self, level: u32, cx: u32, cy: u32) -> Result<i64, Refusal> {
+        crate::cell(self.side, level, cx, cy, &self.table)
+    }
+
+    /// The places of a picture: 4^level. The level is asked for before them, so one that the tile does not have needs no more than the deepest.
+    fn places(&self, level: u32) -> usize {
+        let depth = self.side.trailing_zeros();
+        1 << (2 * level.min(depth))
+    }
+}
+
+/// The count of a contour with so many coordinates: its whole points. Where one coordinate is left over, that many points are not twice as many
+/// numbers, and the call is refused. What 32 bits do not hold stays at their end, where it is no count just the same.
+fn count(coordinates: usize) -> u32 {
+    u32::try_from(coordinates / 2).unwrap_or(u32::MAX)
+}
+
+#[cfg(test)]
+mod tests {
+    use super::*;
+
+    #[test]
+    fn counts_of_coordinates() {
+        for (coordinates, expected) in
+            [(0, 0), (1, 0), (5, 2), (6, 3), (7, 3), (2048, 1024), (2049, 1024), (2050, 1025)]
+        {
+            assert_eq!(count(coordinates), expected);
+        }
+        // cut to 32 bits, these would be 0, 3 and 3
+        for coordinates in [1 << 33, (1 << 33) + 6, (1 << 33) + 7, usize::MAX] {
+            assert_eq!(count(coordinates), u32::MAX);
+        }
+        assert_eq!(count((1 << 33) - 1), u32::MAX);
+    }
+}

@@ -1,0 +1,158 @@
+//! The tile for people: what it refuses, that a refused call leaves it as it was, and that it is drawn as its table is.
+use mattuliyan::{Placement, Refusal, Tile};
+
+/// On a tile of 2 pixels, 01's letters A, F and G.
+const A: [i64; 8] = [0, 0, 256, 0, 256, 256, 0, 256];
+const F: [i64; 6] = [0, 0, 384, 1, 0, 1];
+const G: [i64; 6] = [255, 0, 259, 1, 255, 1];
+
+fn number<T>(answer: Result<T, Refusal>) -> Result<T, u8> {
+    answer.map_err(Refusal::number)
+}
+
+#[test]
+fn sides() {
+    for side in [1, 2, 4, 8, 16, 32, 64] {
+        let tile = Tile::new(side).unwrap();
+        assert_eq!((tile.side(), tile.edges(), tile.table()), (side, 0, &vec![0; (side * side) as usize][..]));
+    }
+    // 65,536 squared is 2^32, of which 32 bits hold nothing; a table for u32::MAX would be larger than any memory
+    for side in [0, 3, 5, 63, 65, 100, 128, 256 + 2, 1 << 16, (1 << 16) + 2, 1 << 31, u32::MAX] {
+        assert_eq!(number(Tile::new(side)), Err(1), "side {side}");
+        assert_eq!(number(Tile::build(side, &[1], &[2], Placement::Scale(f64::NAN))), Err(1), "side {side}");
+    }
+}
+
+#[test]
+fn built_as_the_call_builds() {
+    let points = [&F[..], &A].concat();
+    let placement = Placement::Shift(3.0, 5.0);
+    let tile = Tile::build(2, &points, &[3, 4], placement).unwrap();
+    let mut table = [7; 4];
+    assert_eq!(mattuliyan::build_placed(2, &points, &[3, 4], placement, &mut table), Ok(tile.edges()));
+    assert_eq!((tile.side(), tile.edges(), tile.table()), (2, 7, &table[..]));
+    for (points, counts, placement, expected) in [
+        (&points[..], &[3, 2][..], Placement::None, 4),
+        (&points, &[3, 1024], Placement::None, 5),
+        (&points[1..], &[3, 4], Placement::None, 3),
+        (&points, &[3, 4], Placement::Scale(3.0), 12),
+        (&points, &[3, 4], Placement::Shift(0.0, -1.0), 6),
+    ] {
+        assert_eq!(number(Tile::build(2, points, counts, placement)), Err(expected));
+    }
+}
+
+#[test]
+fn corrected_letters() {
+    let mut tile = Tile::new(2).unwrap();
+    tile.put(&F, Placement::None).unwrap();
+    assert_eq!((tile.edges(), tile.table()), (3, &[384, 299, 384, 299][..]));
+    // G from points that are off the tile
+    tile.put(&[0, 7, 4, 8, 0, 8], Placement::Shift(254.5, -7.5)).unwrap();
+    assert_eq!((tile.edges(), tile.table()), (6, &[388, 299, 388, 299][..]));
+    tile.put(&A, Placement::Scale(1.0)).unwrap();
+    assert_eq!(tile.edges(), 10);
+
+    tile.take(&A, Placement::None).unwrap();
+    tile.take(&G, Placement::None).unwrap();
+    assert_eq!(tile, Tile::build(2, &F, &[3], Placement::None).unwrap());
+    tile.take(&F, Placement::Turn([1.0, 0.0, 0.0, 0.0, 1.0, 0.0])).unwrap();
+    assert_eq!(tile, Tile::new(2).unwrap());
+
+    // a contour that is not in: nothing tells, and it may be put in later
+    tile.put(&F, Placement::None).unwrap();
+    tile.take(&G, Placement::None).unwrap();
+    assert_eq!((tile.edges(), tile.table()), (0, &[380, 299, 380, 299][..]));
+    tile.put(&G, Placement::None).unwrap();
+    assert_eq!(tile, Tile::build(2, &F, &[3], Placement::None).unwrap());
+}
+
+#[test]
+fn refused_calls_change_nothing() {
+    let far = Placement::Shift(0.0, -1.0);
+    let endless = Placement::Scale(f64::INFINITY);
+    let tile = Tile::build(2, &[F, F].concat(), &[3, 3], Placement::None).unwrap();
+    for (points, placement, put, taken) in [
+        // whole points, and a coordinate more: 0, 2, 3, 1,024 and 1,025 of them
+        (&[][..], Placement::None, Err(4), Err(4)),
+        (&[0], Placement::None, Err(4), Err(4)),
+        (&[0; 4], Placement::None, Err(4), Err(4)),
+        (&[0; 5], Placement::None, Err(4), Err(4)),
+        (&[0; 6], Placement::None, Ok(9), Ok(3)),
+        (&[0; 7], Placement::None, Err(3), Err(3)),
+        (&[0; 7], endless, Err(3), Err(3)),
+        (&[0; 2 * 1018], Placement::None, Ok(1024), Err(13)),
+        (&[0; 2 * 1018 + 1], Placement::None, Err(3), Err(3)),
+        (&[0; 2 * 1019], Placement::None, Err(5), Err(13)),
+        (&[0; 2 * 1024 + 1], Placement::None, Err(5), Err(3)),
+        (&[0; 2 * 1025], Placement::None, Err(4), Err(4)),
+        (&A, endless, Err(12), Err(12)),
+        (&A, far, Err(6), Err(6)),
+        (&[0; 12], Placement::None, Ok(12), Ok(0)),
+        (&[0; 14], Placement::None, Ok(13), Err(13)),
+    ] {
+        for (call, expected) in [(Tile::put as fn(&mut Tile, &[i64], Placement) -> _, put), (Tile::take, taken)] {
+            let mut corrected = tile.clone();
+            let answer = call(&mut corrected, points, placement);
+            let expected_edges = expected.unwrap_or(tile.edges());
+            assert_eq!(number(answer.map(|()| corrected.edges())), expected, "{} numbers", points.len());
+            // points that are all one have no values, so the table is the same in any case
+            assert_eq!((corrected.edges(), corrected.table()), (expected_edges, tile.table()));
+        }
+    }
+}
+
+#[test]
+fn tables_stay_in_range() {
+    // The border 256 times round is 2^37 units. It is put in again and again, each time with as many edges that have no values taken out, or the
+    // other way round, so that there is always room in the record.
+    let round = [0, 0, 16384, 0, 16384, 16384, 0, 16384].repeat(256);
+    let nothing = [0; 2 * 1024];
+    for (put, taken, end) in [(&round[..], &nothing[..], 1 << 40), (&nothing, &round, -1 << 40)] {
+        let mut tile = Tile::new(64).unwrap();
+        for _ in 0..8 {
+            tile.put(put, Placement::None).unwrap();
+            tile.take(taken, Placement::None).unwrap();
+        }
+        let full = tile.clone();
+        assert_eq!((tile.edges(), tile.table()[0]), (0, end));
+        let answer = tile.put(put, Placement::None);
+        if answer.is_ok() {
+            assert_eq!(number(tile.take(taken, Placement::None)), Err(9));
+            tile.take(put, Placement::None).unwrap();
+        } else {
+            assert_eq!(number(answer), Err(9));
+        }
+        assert_eq!(tile, full);
+        // and it is still drawn
+        assert_eq!(number(tile.cell(0, 0, 0)), Ok(end));
+        assert_eq!(number(tile.greys(6)), Ok(vec![if end > 0 { 255 } else { 0 }; 4096]));
+    }
+}
+
+#[test]
+fn drawn_as_the_table_is() {
+    for side in [1, 2, 16, 64] {
+        let edge = 256 * i64::from(side);
+        let tile = Tile::build(side, &[0, 0, edge, 7, edge - 9, edge], &[3], Placement::None).unwrap();
+        let depth = side.trailing_zeros();
+        for level in 0..=depth {
+            let places = 1 << (2 * level);
+            let (mut figures, mut greys) = (vec![1; places], vec![1; places]);
+            mattuliyan::figures(side, level, tile.table(), &mut figures).unwrap();
+            mattuliyan::greys(side, level, tile.table(), &mut greys).unwrap();
+            let last = (1 << level) - 1;
+            assert_eq!(tile.cell(level, last, 0).unwrap(), figures[last as usize]);
+            assert_eq!(tile.cell(level, 0, last).unwrap(), figures[places - 1 - last as usize]);
+            assert_eq!(number(tile.cell(level, last + 1, 0)), Err(10));
+            assert_eq!(tile.figures(level).unwrap(), figures);
+            assert_eq!(tile.greys(level).unwrap(), greys);
+        }
+        // 4^level places are not made for these: of the last there would be more than any memory has
+        for level in [depth + 1, 7, 16, 31, 32, 33, 64, u32::MAX] {
+            assert_eq!(number(tile.figures(level)), Err(7), "side {side}, level {level}");
+            assert_eq!(number(tile.greys(level)), Err(7), "side {side}, level {level}");
+            assert_eq!(number(tile.cell(level, 0, 0)), Err(7), "side {side}, level {level}");
+        }
+    }
+}
