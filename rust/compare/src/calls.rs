@@ -1,7 +1,7 @@
 //! One call of the library beside the same call of the reference: equal answers, equal buffers afterwards, and nothing else written.
 use crate::placements;
 use mattuliyan::Refusal;
-use reference::{Placement, Rules};
+use reference::{Correction, Placement, Rules};
 use std::fmt::{Debug, Display, Formatter};
 
 /// What is answered or left otherwise than the reference says, in words.
@@ -65,6 +65,99 @@ fn built(
     same(&format!("what {name} answers"), &answer, &answered)?;
     table.same(&format!("the table after {name}"), expected.as_ref().map_or(held, |(_, table)| table))?;
     Ok(answer.map(|edges| (edges, table.get().to_vec())))
+}
+
+/// A tile: a table with the record of its edge count.
+#[derive(Clone, Debug, PartialEq)]
+pub struct Tile {
+    pub record: u32,
+    pub table: Vec<i64>,
+}
+
+/// A call that puts a contour into a tile or takes it out.
+#[derive(Clone, Debug)]
+pub struct Correcting {
+    pub correction: Correction,
+    pub side: u32,
+    pub points: Vec<i64>,
+    pub count: u32,
+    pub placement: Placement,
+    /// as it is before the call
+    pub tile: Tile,
+}
+
+/// Correcting a tile: what the library answers, and the tile that it leaves where it is done, which the reference says too. It is called by the
+/// placement's type and by its numbers, as for building.
+pub fn correct(rules: &dyn Rules, call: &Correcting) -> Result<Result<Tile, u8>, Difference> {
+    let Correcting { correction, side, ref points, count, placement, ref tile } = *call;
+    let (name, by_reference) = match correction {
+        Correction::PutIn => ("put", reference::put as fn(&dyn Rules, _, &[i64], _, _, &mut _, &mut [i64]) -> _),
+        Correction::TakeOut => ("take", reference::take as _),
+    };
+    let mut left = tile.clone();
+    let answer: Result<(), u8> = by_reference(rules, side, points, count, placement, &mut left.record, &mut left.table);
+
+    let numbers = placements::numbers(placement);
+    let lent = Guarded::new(&numbers);
+    corrected(&format!("{name}_by_numbers"), call, answer, &left, |points, edges, table| {
+        let by_numbers = match correction {
+            Correction::PutIn => mattuliyan::put_by_numbers,
+            Correction::TakeOut => mattuliyan::take_by_numbers,
+        };
+        by_numbers(side, points, count, lent.get(), edges, table)
+    })?;
+    lent.same(&format!("the numbers after {name}_by_numbers"), &numbers)?;
+    corrected(name, call, answer, &left, |points, edges, table| {
+        let by_type = match correction {
+            Correction::PutIn => mattuliyan::put,
+            Correction::TakeOut => mattuliyan::take,
+        };
+        by_type(side, points, count, placements::for_library(placement), edges, table)
+    })?;
+    Ok(answer.map(|()| left))
+}
+
+/// Does a call of the library answer this, and leave this tile?
+fn corrected(
+    name: &str,
+    call: &Correcting,
+    answer: Result<(), u8>,
+    left: &Tile,
+    make: impl FnOnce(&[i64], &mut u32, &mut [i64]) -> Result<(), Refusal>,
+) -> Result<(), Difference> {
+    let lent_points = Guarded::new(&call.points);
+    let (mut record, mut table) = (Guarded::new(&[call.tile.record]), Guarded::new(&call.tile.table));
+    let answered = make(lent_points.get(), &mut record.get_mut()[0], table.get_mut()).map_err(Refusal::number);
+    lent_points.same(&format!("the points after {name}"), &call.points)?;
+    same(&format!("what {name} answers"), &answered, &answer)?;
+    record.same(&format!("the record after {name}"), &[left.record])?;
+    table.same(&format!("the table after {name}"), &left.table)
+}
+
+/// The same call on a tile of the library's own type, which is as the call's is: what it answers and how it is left must be as is expected, which
+/// is the tile where it is done.
+pub fn correct_owned(
+    owned: &mut mattuliyan::Tile,
+    call: &Correcting,
+    expected: &Result<Tile, u8>,
+) -> Result<(), Difference> {
+    let placement = placements::for_library(call.placement);
+    let lent_points = Guarded::new(&call.points);
+    let answer = match call.correction {
+        Correction::PutIn => owned.put(lent_points.get(), placement),
+        Correction::TakeOut => owned.take(lent_points.get(), placement),
+    };
+    lent_points.same("the points after a tile's own call", &call.points)?;
+    let answered = expected.as_ref().map(|_| ()).map_err(|&number| number);
+    same("what a tile's own call answers", &answer.map_err(Refusal::number), &answered)?;
+    same_owned(owned, call.side, expected.as_ref().unwrap_or(&call.tile))
+}
+
+/// Is a tile of the library's own type this one?
+pub fn same_owned(owned: &mattuliyan::Tile, side: u32, expected: &Tile) -> Result<(), Difference> {
+    same("the side of a tile", &owned.side(), &side)?;
+    same("the edge count of a tile", &owned.edges(), &expected.record)?;
+    same_list("the table of a tile", owned.table(), &expected.table)
 }
 
 /// A picture of figures: what the library answers and leaves, which the reference says too.

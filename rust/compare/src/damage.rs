@@ -1,8 +1,9 @@
 //! Calls that may be refused: sound ones with some part damaged, often two parts, so that the order of the questions matters.
+use crate::calls::{Correcting, Tile};
 use crate::outlines::{Outline, MOST_EDGES, SIDES};
 use crate::placements::{self, FACTOR, HIGHEST, LOWEST, OFFSET, PART};
 use crate::random::Random;
-use reference::{Limits, Placement, STEPS};
+use reference::{Correction, Limits, Placement, STEPS};
 
 /// Question 9: an entry's limit, either way.
 pub const ENTRY_LIMIT: i64 = Limits::SPEC.largest_entry;
@@ -132,6 +133,77 @@ pub fn placing(random: &mut Random, outline: &Outline) -> (Building, Placement) 
         }
     }
     (call, placements::of_numbers(&numbers))
+}
+
+/// A correction of a tile, damaged in one or two parts. (Again, not every damage shows.)
+pub fn correcting(random: &mut Random, mut call: Correcting) -> Correcting {
+    let limit = STEPS * call.side as i64;
+    for _ in 0..random.within(1, 2) {
+        match random.index(14) {
+            0 => no_side(random, &mut call.side, &mut call.tile.table),
+            1 => call.side = random.pick(&SIDES),
+            2 => resize(random, &mut call.tile.table),
+            3 => call.count = random.pick(&NO_COUNTS),
+            4 => call.count = random.pick(&[3, call.count.saturating_sub(1), call.count.wrapping_add(1), MOST_EDGES]),
+            5 => resize(random, &mut call.points),
+            6 => put(random, &mut call.points, [-1, limit, limit + 1, i64::MIN, i64::MAX, 1 << 32]),
+            7 => put(random, &mut call.points, REACHES),
+            8 => {
+                let mut numbers = placements::numbers(call.placement);
+                let (float, any) = (random.pick(&FLOATS), f64::from_bits(random.number()));
+                put(random, &mut numbers, [float, -float, any]);
+                call.placement = placements::of_numbers(&numbers);
+            }
+            9..11 => call.tile.record = any_record(random, call.count),
+            11 => put(random, &mut call.tile.table, ENTRIES),
+            12 => call.tile.table = table_in_range(random, call.tile.table.len()),
+            _ => to_the_limit(random, &mut call),
+        }
+    }
+    call
+}
+
+/// A record that may be any, and mostly is near to where questions 5 and 13 turn: with the contour's edges about as many as there may be, about as
+/// many as the contour has, about 0, which are the ends of 32 bits, and what is lost where only 16 bits are looked at.
+pub fn any_record(random: &mut Random, count: u32) -> u32 {
+    let beside = random.within(-2, 2) as u32;
+    let about = match random.index(6) {
+        0..2 => MOST_EDGES.wrapping_sub(count),
+        2 => count,
+        3 => 0,
+        4 => BEYOND_16_BITS.wrapping_mul(random.number() as u32).wrapping_add(count),
+        _ => random.number() as u32,
+    };
+    about.wrapping_add(beside)
+}
+
+/// The table becomes one that the contour takes to the limit, in every entry or in one, and once in a while one past it there.
+fn to_the_limit(random: &mut Random, call: &mut Correcting) {
+    let mut own = vec![0; call.tile.table.len()];
+    let placement = placements::for_library(call.placement);
+    if mattuliyan::build_placed(call.side, &call.points, &[call.count], placement, &mut own).is_err() {
+        return; // a damage from before
+    }
+    if call.correction == Correction::TakeOut {
+        own.iter_mut().for_each(|value| *value = -*value);
+    }
+    // the end towards which the contour changes an entry, so that the entry is in range before
+    let end = |value: i64| if value < 0 { -ENTRY_LIMIT } else { ENTRY_LIMIT };
+    let at = random.index(own.len());
+    let at = random.pick(&[0, own.len() - 1, at]);
+    if random.once_in(2) {
+        call.tile.table = own.iter().map(|&value| end(value) - value).collect();
+    } else {
+        call.tile.table[at] = end(own[at]) - own[at];
+    }
+    if random.once_in(2) {
+        call.tile.table[at] += end(own[at]).signum();
+    }
+}
+
+/// A tile whose table question 9 lets pass, and any record.
+pub fn any_tile(random: &mut Random, side: u32, count: u32) -> Tile {
+    Tile { record: any_record(random, count), table: table_in_range(random, (side * side) as usize) }
 }
 
 /// Counts that add up to just what is allowed, or to one more, with their points.

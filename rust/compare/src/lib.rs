@@ -5,19 +5,22 @@
 //!
 //! A run is a list of cases, each made from the run's seed and its own number, so that any of them can be tried again alone. A case takes one
 //! accepted outline through building and every drawing call at every level ([`calls`]), and one like it that is placed first ([`placements`]),
-//! holds what is drawn to demand 3 with exact areas ([`demand3`]), and makes some calls that may be refused ([`damage`]).
+//! holds what is drawn to demand 3 with exact areas ([`demand3`]), and makes some calls that may be refused ([`damage`]). Corrections of tiles have
+//! runs of their own, of series ([`series`]).
 pub mod calls;
 pub mod damage;
 pub mod demand3;
 pub mod outlines;
 pub mod placements;
 pub mod random;
+pub mod series;
 
 use calls::Difference;
 use demand3::Worst;
 use outlines::{Outline, SIDES};
 use random::Random;
-use reference::{Placement, Rules, Spec};
+use reference::{Rules, Spec};
+use std::ops::Range;
 use std::panic::{catch_unwind, AssertUnwindSafe};
 use std::sync::atomic::{AtomicU64, Ordering};
 
@@ -55,8 +58,13 @@ pub struct Seen {
     pub worst: Option<Worst>,
 }
 
-impl Seen {
-    pub fn add(&mut self, other: Seen) {
+/// What is counted in each part of a run, and added up.
+pub trait Tally: Default + Send {
+    fn add(&mut self, other: Self);
+}
+
+impl Tally for Seen {
+    fn add(&mut self, other: Seen) {
         self.outlines += other.outlines;
         self.octilinear += other.octilinear;
         self.edges += other.edges;
@@ -69,7 +77,9 @@ impl Seen {
         self.answered.iter_mut().zip(other.answered).for_each(|(mine, more)| *mine += more);
         self.consider(other.worst);
     }
+}
 
+impl Seen {
     fn consider(&mut self, worst: Option<Worst>) {
         let ratio = |worst: &Option<Worst>| worst.as_ref().map_or(-1.0, |worst| worst.ratio);
         if ratio(&worst) > ratio(&self.worst) {
@@ -179,13 +189,7 @@ fn from_placed_to_pictures(
     let Some((_, table)) = seen.answer(calls::build_placed(rules, side, &points, counts, placement, &held)?) else {
         return Err(Difference("an accepted outline is refused with its placement".to_string()));
     };
-    let kind = match placement {
-        Placement::None => 0,
-        Placement::Shift(..) => 1,
-        Placement::Scale(_) => 2,
-        Placement::Turn(_) => 3,
-    };
-    seen.placed[kind] += 1;
+    seen.placed[placements::kind(placement)] += 1;
     let area = reference::signed_area(&placed.points, counts);
     for level in 0..=placed.depth() {
         let (figures, greys) = pictures(rules, random, side, level, &table, seen)?;
@@ -297,15 +301,23 @@ pub fn tried<T>(what: impl FnOnce() -> Result<T, Difference>) -> Result<T, Diffe
 }
 
 /// The cases of these numbers, on all processors: what was seen, or the first case that fails, with what is wrong there.
-pub fn run(seed: u64, numbers: std::ops::Range<u64>) -> Result<Seen, (u64, Difference)> {
+pub fn run(seed: u64, numbers: Range<u64>) -> Result<Seen, (u64, Difference)> {
+    on_all_processors(numbers, |number, seen| case(&Spec, seed, number, seen))
+}
+
+/// Something of each of these numbers, on all processors: what was counted, or the first number that fails, with what is wrong there.
+pub fn on_all_processors<T: Tally>(
+    numbers: Range<u64>,
+    each: impl Fn(u64, &mut T) -> Result<(), Difference> + Sync,
+) -> Result<T, (u64, Difference)> {
     let threads = std::thread::available_parallelism().map_or(1, |n| n.get() as u64);
-    // no case after one that failed need be tried
+    // none after one that failed need be tried
     let end = AtomicU64::new(numbers.end);
     let part = |first: u64| {
-        let mut seen = Seen::default();
+        let mut seen = T::default();
         let mut number = numbers.start + first;
         while number < end.load(Ordering::Relaxed) {
-            if let Err(difference) = tried(|| case(&Spec, seed, number, &mut seen)) {
+            if let Err(difference) = tried(|| each(number, &mut seen)) {
                 end.fetch_min(number, Ordering::Relaxed);
                 return Err((number, difference));
             }
@@ -313,11 +325,11 @@ pub fn run(seed: u64, numbers: std::ops::Range<u64>) -> Result<Seen, (u64, Diffe
         }
         Ok(seen)
     };
-    let parts: Vec<Result<Seen, (u64, Difference)>> = std::thread::scope(|scope| {
+    let parts: Vec<Result<T, (u64, Difference)>> = std::thread::scope(|scope| {
         let running: Vec<_> = (0..threads).map(|first| scope.spawn(move || part(first))).collect();
         running.into_iter().map(|thread| thread.join().expect("panics are caught in each case")).collect()
     });
-    let mut seen = Seen::default();
+    let mut seen = T::default();
     let mut failed = Vec::new();
     for part in parts {
         match part {

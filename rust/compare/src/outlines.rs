@@ -10,7 +10,7 @@ use reference::{Limits, STEPS};
 pub const SIDES: [u32; 7] = [1, 2, 4, 8, 16, 32, 64];
 /// The most edges of an outline, and the fewest points of a contour.
 pub const MOST_EDGES: u32 = Limits::SPEC.most_edges;
-const FEWEST_POINTS: u32 = Limits::SPEC.least_count;
+pub const FEWEST_POINTS: u32 = Limits::SPEC.least_count;
 
 #[derive(Clone, Debug, PartialEq)]
 pub struct Outline {
@@ -92,6 +92,14 @@ pub fn outline(random: &mut Random, side: u32, large: bool) -> Outline {
         points.extend(contour.iter().map(|&(x, y)| (x.clamp(0, limit), y.clamp(0, limit))));
     }
     Outline { side, points: points.iter().flat_map(|&(x, y)| [x, y]).collect(), counts }
+}
+
+/// The points of a contour alone, of any kind.
+pub fn contour(random: &mut Random, side: u32, count: u32) -> Vec<i64> {
+    let limit = STEPS * side as i64;
+    let make = random.pick(&KINDS);
+    let points = make(random, limit, count as usize);
+    points.iter().flat_map(|&(x, y)| [x.clamp(0, limit), y.clamp(0, limit)]).collect()
 }
 
 /// Counts that add up to `most` edges, or once in a while none.
@@ -339,6 +347,17 @@ mod tests {
             most > 20 && empty > 10 && exact > 100,
             "{most} with the most edges, {empty} empty, {exact} octilinear"
         );
+    }
+
+    #[test]
+    fn contours_alone_are_accepted_ones() {
+        let mut random = Random::new(5);
+        for number in 0..2100 {
+            let (side, count) = (SIDES[number % 7], random.within(3, 40) as u32);
+            let points = contour(&mut random, side, count);
+            assert_eq!(points.len(), 2 * count as usize);
+            assert!(points.iter().all(|&c| 0 <= c && c <= STEPS * side as i64));
+        }
     }
 
     #[test]

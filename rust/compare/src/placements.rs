@@ -1,7 +1,7 @@
-//! Placements: random ones that take points onto a tile, those that a person gives as words, and what the library is given.
+//! Placements: random ones that take points onto a tile, or to given points; those that a person gives as words, and what the library is given.
 use crate::outlines::Outline;
 use crate::random::Random;
-use reference::{Limits, Placement, STEPS};
+use reference::{Limits, Placement, Spec, STEPS};
 use std::ffi::{OsStr, OsString};
 
 /// Parts to one: the numbers of a placement are whole numbers of 65,536ths.
@@ -69,24 +69,30 @@ fn scale(random: &mut Random, outline: &Outline) -> (Placement, Vec<i64>) {
 /// About the middle of the tile, or about any other point, which goes to the middle. The outline is made so much smaller first that the factors
 /// cannot take it off the tile.
 fn turn(random: &mut Random, outline: &Outline) -> (Placement, Vec<i64>) {
-    let [a, b, d, e] = factors(random);
+    let factors @ [a, b, d, e] = factors(random);
     let most = (a.abs() + b.abs()).max(d.abs() + e.abs());
     let smaller = [1, 2, 4].into_iter().find(|times| most <= times * PARTS).expect("no factor is past 2");
     let middle = STEPS * outline.side as i64 / 2;
-    let room = HIGHEST - middle;
-    let (across, down) = (fraction(random), fraction(random));
-    let mut from = if random.once_in(2) { [middle; 2] } else { [(); 2].map(|()| random.within(-room, room)) };
-    let (c, f) = loop {
-        let [x, y] = from;
-        let (c, f) = (middle * PARTS - a * x - b * y + across, middle * PARTS - d * x - e * y + down);
-        if c.abs().max(f.abs()) <= MOST_OFFSET {
-            break (c, f);
-        }
-        from = [x / 2, y / 2]; // a point nearer to the corner of the tile, which needs less of an offset
-    };
+    let (from, [c, f]) = to_the_middle(random, outline.side, factors);
     let back = |(i, &at): (usize, &i64)| from[i % 2] + (at - middle) / smaller;
     let points = outline.points.iter().enumerate().map(back).collect();
     (Placement::Turn([a, b, c, d, e, f].map(float)), points)
+}
+
+/// A point that a turn of these factors takes to the middle of the tile, and its offsets for that, in 65,536ths.
+fn to_the_middle(random: &mut Random, side: u32, [a, b, d, e]: [i64; 4]) -> ([i64; 2], [i64; 2]) {
+    let middle = STEPS * side as i64 / 2;
+    let room = HIGHEST - middle;
+    let (across, down) = (fraction(random), fraction(random));
+    let mut from = if random.once_in(2) { [middle; 2] } else { [(); 2].map(|()| random.within(-room, room)) };
+    loop {
+        let [x, y] = from;
+        let (c, f) = (middle * PARTS - a * x - b * y + across, middle * PARTS - d * x - e * y + down);
+        if c.abs().max(f.abs()) <= MOST_OFFSET {
+            return (from, [c, f]);
+        }
+        from = [x / 2, y / 2]; // a point nearer to the corner of the tile, which needs less of an offset
+    }
 }
 
 /// a, b, d and e of a turn, in 65,536ths.
@@ -115,6 +121,71 @@ fn factors(random: &mut Random) -> [i64; 4] {
             let any = random.within(-MOST_FACTOR, MOST_FACTOR);
             random.pick(&[any, any, any, MOST_FACTOR, -MOST_FACTOR, 0])
         }),
+    }
+}
+
+/// How many placements are tried for given points before none is taken.
+const TRIES: u32 = 8;
+
+/// A placement, and points that it takes to just these, which are on a tile of this side.
+pub fn exactly_onto(random: &mut Random, side: u32, points: &[i64]) -> (Placement, Vec<i64>) {
+    for _ in 0..TRIES {
+        let (placement, turn) = match random.index(8) {
+            0 => break,
+            1..3 => {
+                let mut offset = || {
+                    let reach = random.pick(&[2, 2 * STEPS, MOST_OFFSET / PARTS]);
+                    let offset = random.within(-reach, reach) * PARTS + fraction(random);
+                    offset.clamp(-MOST_OFFSET, MOST_OFFSET)
+                };
+                let (x, y) = (offset(), offset());
+                (Placement::Shift(float(x), float(y)), [PARTS, 0, x, 0, PARTS, y])
+            }
+            3..5 => {
+                let any = random.within(1, PARTS);
+                let factor = random.pick(&[any, any, PARTS, HALF, MOST_FACTOR]) * random.pick(&[1, -1]);
+                (Placement::Scale(float(factor)), [factor, 0, 0, 0, factor, 0])
+            }
+            _ => {
+                let factors @ [a, b, d, e] = factors(random);
+                let (_, [c, f]) = to_the_middle(random, side, factors);
+                let turn = [a, b, c, d, e, f];
+                (Placement::Turn(turn.map(float)), turn)
+            }
+        };
+        if let Some(before) = led_back(placement, turn, points) {
+            return (placement, before);
+        }
+    }
+    (Placement::None, points.to_vec())
+}
+
+/// The whole points nearest to those from which a turn, in 65,536ths, would lead to these; where that placement takes them to just these. It does
+/// if its factors are small, so that what they are off by is rounded away.
+fn led_back(placement: Placement, [a, b, c, d, e, f]: [i64; 6], points: &[i64]) -> Option<Vec<i64>> {
+    let determinant = a * e - b * d;
+    if determinant == 0 {
+        return None;
+    }
+    let (size, sign) = (determinant.abs(), determinant.signum());
+    // halves towards the smaller, for placing takes them towards the larger
+    let nearest = |numerator: i64| (2 * sign * numerator + size - 1).div_euclid(2 * size);
+    let back = |point: &[i64]| {
+        let (x, y) = (PARTS * point[0] - c, PARTS * point[1] - f);
+        [nearest(e * x - b * y), nearest(a * y - d * x)]
+    };
+    let before: Vec<i64> = points.chunks(2).flat_map(back).collect();
+    let movable = before.iter().all(|at| (LOWEST..=HIGHEST).contains(at));
+    (movable && reference::placed(&Spec, placement, &before) == points).then_some(before)
+}
+
+/// Which placement it is: none, a shift, a scale or a turn.
+pub fn kind(placement: Placement) -> usize {
+    match placement {
+        Placement::None => 0,
+        Placement::Shift(..) => 1,
+        Placement::Scale(_) => 2,
+        Placement::Turn(_) => 3,
     }
 }
 
@@ -165,8 +236,7 @@ pub fn for_library(placement: Placement) -> mattuliyan::Placement {
 #[cfg(test)]
 mod tests {
     use super::*;
-    use crate::outlines::{outline, SIDES};
-    use reference::Spec;
+    use crate::outlines::{contour, outline, SIDES};
 
     #[test]
     fn placed_outlines_are_on_the_tile() {
@@ -188,6 +258,23 @@ mod tests {
         assert!(moved > 1500, "only {moved} outlines are moved");
         assert!(halves > 5000, "only {halves} coordinates are at a half");
         assert!(flat < 100, "{flat} outlines have lost their area");
+    }
+
+    #[test]
+    fn placements_lead_to_just_these_points() {
+        let mut random = Random::new(6);
+        let (mut kinds, mut moved, mut halves) = ([0; 4], 0, 0);
+        for number in 0..7000 {
+            let (side, count) = (SIDES[number % 7], random.within(3, 12) as u32);
+            let points = contour(&mut random, side, count);
+            let (placement, before) = exactly_onto(&mut random, side, &points);
+            assert_eq!(reference::placed(&Spec, placement, &before), points, "{placement:?}");
+            kinds[kind(placement)] += 1;
+            moved += (before != points) as u32;
+            halves += on_halves(placement, &before);
+        }
+        assert!(kinds.iter().all(|&times| times > 700), "none, shifted, scaled, turned: {kinds:?}");
+        assert!(moved > 4500 && halves > 5000, "{moved} moved, {halves} coordinates at a half");
     }
 
     /// How many coordinates a placement takes to a half. In floats this is exact, as 02 says.

@@ -1,13 +1,14 @@
-//! The tests are tested: each wrong variant of the reference differs from the library in some case of the same run, and what is drawn wrongly
-//! does not pass for near.
+//! The tests are tested: each wrong variant of the reference differs from the library in some case of the same run, or in some series, and what is
+//! drawn wrongly does not pass for near.
 use compare::calls::Difference;
 use compare::outlines::Outline;
-use compare::{case, demand3, Seen};
+use compare::{case, demand3, series, Seen};
 use reference::{Rules, Spec};
 
-/// The seed of `tests/differential.rs`, whose first cases these are.
+/// The seed of `tests/differential.rs` and of `tests/series.rs`, whose first cases and first series these are.
 const SEED: u64 = 1;
 const CASES: u64 = 2_000;
+const SERIES: u64 = 500;
 
 fn first_difference(rules: &dyn Rules) -> Option<(u64, Difference)> {
     let mut seen = Seen::default();
@@ -24,6 +25,25 @@ fn wrong_references_are_caught() {
         println!("mutants: {name}: caught in case {number}: {difference}");
     }
     assert!(first_difference(&Spec).is_none(), "the reference itself differs");
+}
+
+fn first_different_series(rules: &dyn Rules) -> Option<(u64, Difference)> {
+    let mut seen = series::Seen::default();
+    let different =
+        |number| series::series(rules, SEED, number, &mut seen).err().map(|difference| (number, difference));
+    (0..SERIES).find_map(different)
+}
+
+#[test]
+fn wrong_corrections_are_caught() {
+    let of_corrections = reference::wrong::of_correction();
+    assert!(of_corrections.len() >= 30);
+    for (name, rules) in of_corrections {
+        let (number, difference) =
+            first_different_series(&*rules).unwrap_or_else(|| panic!("{name}: not caught in {SERIES} series"));
+        println!("mutants: {name}: caught in series {number}: {difference}");
+    }
+    assert!(first_different_series(&Spec).is_none(), "the reference itself differs");
 }
 
 /// 01's letter F, its signed area, and its figures and greys of level 1 as they are drawn.

@@ -152,12 +152,17 @@ fn page_of_a_placed_letter() {
 }
 
 #[test]
-fn soak_of_one_case() {
+fn soak_of_one_case_or_series() {
     let soak = |words: &[&str]| Command::new(env!("CARGO_BIN_EXE_soak")).args(words).output().unwrap();
     let output = soak(&["--seed", "5", "--case", "13"]);
     assert!(output.status.success());
     assert!(text(&output.stdout).contains("1 outlines"), "{}", text(&output.stdout));
-    for words in [&["--case"][..], &["--case", "x"], &["--else", "1"]] {
+    assert!(!text(&output.stdout).contains("series"), "{}", text(&output.stdout));
+    let output = soak(&["--seed", "5", "--series", "13"]);
+    assert!(output.status.success());
+    assert!(text(&output.stdout).contains("up to series 13: 1 series"), "{}", text(&output.stdout));
+    assert!(!text(&output.stdout).contains("outlines"), "{}", text(&output.stdout));
+    for words in [&["--case"][..], &["--case", "x"], &["--series"], &["--else", "1"]] {
         assert_eq!(soak(words).status.code(), Some(2));
     }
 }

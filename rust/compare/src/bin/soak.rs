@@ -1,36 +1,41 @@
 //! Compares library and reference for as long as one likes, and looks for outlines whose figures miss the exact area by the most.
 use compare::random::Random;
-use compare::{from_outline_to_pictures, run, tried, Seen};
+use compare::{from_outline_to_pictures, run, series, tried, Seen, Tally};
 use reference::{Spec, STEPS};
+use std::ops::Range;
 use std::process::ExitCode;
 use std::time::Instant;
 
-const USAGE: &str = "usage: soak [--seed N] [--case N] [--seconds N]
+const USAGE: &str = "usage: soak [--seed N] [--case N] [--series N] [--seconds N]
 
-Runs case after case of a seed, 1 if left out, and says every few seconds how far it is and what was the worst miss of a
-figure so far, as a ratio of its bound. Each time, the worst of the latest outlines is changed a little, over and over, in
-search of a worse one. It ends at the first difference between library and reference, with status 1, or after the
-round in which the seconds have passed; else it goes on until it is stopped. With --case, only that case is tried.";
+Runs case after case of a seed, 1 if left out, and series after series of corrections, and says every few seconds how far
+it is and what was the worst miss of a figure so far, as a ratio of its bound. Each time, the worst of the latest outlines
+is changed a little, over and over, in search of a worse one. It ends at the first difference between library and
+reference, with status 1, or after the round in which the seconds have passed; else it goes on until it is stopped. With
+--case or --series, only that case or that series is tried.";
 
-/// Cases between two lines of progress: some seconds' worth.
+/// Cases and series between two lines of progress: some seconds' worth.
 const ROUND: u64 = 4_000;
+const ROUND_OF_SERIES: u64 = 1_000;
 /// Changed outlines that are tried after each round.
 const CHANGES: u64 = 4_000;
 
 struct Options {
     seed: u64,
     case: Option<u64>,
+    series: Option<u64>,
     seconds: u64,
 }
 
 fn options() -> Option<Options> {
-    let mut options = Options { seed: 1, case: None, seconds: u64::MAX };
+    let mut options = Options { seed: 1, case: None, series: None, seconds: u64::MAX };
     let mut words = std::env::args().skip(1);
     while let Some(word) = words.next() {
         let number = words.next()?.parse().ok()?;
         match &word[..] {
             "--seed" => options.seed = number,
             "--case" => options.case = Some(number),
+            "--series" => options.series = Some(number),
             "--seconds" => options.seconds = number,
             _ => return None,
         }
@@ -47,37 +52,55 @@ fn main() -> ExitCode {
         eprintln!("{USAGE}");
         return ExitCode::from(2);
     };
-    let begun = Instant::now();
-    let mut seen = Seen::default();
-    let mut next = options.case.unwrap_or(0);
-    loop {
-        let before = seen.worst.as_ref().map(|worst| worst.ratio);
-        match round(&options, next) {
-            Ok(more) => seen.add(more),
-            Err(difference) => {
-                println!("{difference}");
-                return ExitCode::FAILURE;
-            }
-        }
-        next += if options.case.is_some() { 1 } else { ROUND };
-        println!("{} s, up to case {}: {seen}", begun.elapsed().as_secs(), next - 1);
-        if let Some(worst) = seen.worst.as_ref().filter(|worst| Some(worst.ratio) != before) {
-            // so that it can be looked at with `draw --exact`
-            print!("{}", worst.outline.frame(worst.level));
-        }
-        if options.case.is_some() || begun.elapsed().as_secs() >= options.seconds {
-            return ExitCode::SUCCESS;
+    match soak(&options) {
+        Ok(()) => ExitCode::SUCCESS,
+        Err(difference) => {
+            println!("{difference}");
+            ExitCode::FAILURE
         }
     }
 }
 
-/// Some cases, and then the worst of their outlines changed: what was seen, or what is different.
-fn round(options: &Options, first: u64) -> Result<Seen, String> {
-    let end = if options.case.is_some() { first + 1 } else { first + ROUND };
-    let mut seen = run(options.seed, first..end)
-        .map_err(|(number, difference)| format!("seed {}, case {number}: {difference}", options.seed))?;
-    if options.case.is_none() {
-        look_for_worse(&mut Random::of_case(!options.seed, first), &mut seen)?;
+/// Round after round, until the seconds have passed or something is different; or what is asked for alone.
+fn soak(options: &Options) -> Result<(), String> {
+    let begun = Instant::now();
+    let (mut seen, mut seen_series) = (Seen::default(), series::Seen::default());
+    let alone = options.case.is_some() || options.series.is_some();
+    for round in 0.. {
+        let numbers = |asked: Option<u64>, length: u64| match asked {
+            Some(number) => number..number + 1,
+            None if alone => 0..0,
+            None => round * length..(round + 1) * length,
+        };
+        let (cases, series) = (numbers(options.case, ROUND), numbers(options.series, ROUND_OF_SERIES));
+        if !cases.is_empty() {
+            let before = seen.worst.as_ref().map(|worst| worst.ratio);
+            seen.add(round_of_cases(options.seed, cases.clone(), alone)?);
+            println!("{} s, up to case {}: {seen}", begun.elapsed().as_secs(), cases.end - 1);
+            if let Some(worst) = seen.worst.as_ref().filter(|worst| Some(worst.ratio) != before) {
+                // so that it can be looked at with `draw --exact`
+                print!("{}", worst.outline.frame(worst.level));
+            }
+        }
+        if !series.is_empty() {
+            let more = series::run(options.seed, series.clone());
+            seen_series.add(more.map_err(|(number, what)| format!("seed {}, series {number}: {what}", options.seed))?);
+            println!("{} s, up to series {}: {seen_series}", begun.elapsed().as_secs(), series.end - 1);
+        }
+        if alone || begun.elapsed().as_secs() >= options.seconds {
+            break;
+        }
+    }
+    Ok(())
+}
+
+/// Some cases, and then the worst of their outlines changed, if they are not tried alone: what was seen, or what is different.
+fn round_of_cases(seed: u64, cases: Range<u64>, alone: bool) -> Result<Seen, String> {
+    let first = cases.start;
+    let mut seen =
+        run(seed, cases).map_err(|(number, difference)| format!("seed {seed}, case {number}: {difference}"))?;
+    if !alone {
+        look_for_worse(&mut Random::of_case(!seed, first), &mut seen)?;
     }
     Ok(seen)
 }
