@@ -3,7 +3,7 @@
 --
 -- Proved of `search_entries`, for every table: both its answers, question 9's and the count. To be read in the code: that the loop of `search_within` of
 -- `integers` returns at that entry, and that question 9 is asked by `search_entries` alone, whose count no call passes on.
--- `Questions`, `Outcomes` and `Faithful`, which are all that the public contracts cite of this crate, know nothing of it.
+-- `Questions`, `Outcomes`, `Faithful`, `Corrections` and `Holding`, which are all that the public contracts cite of this crate, know nothing of it.
 --
 -- Definitions
 --   inRange z                              question 9 of one entry

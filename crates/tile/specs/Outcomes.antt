@@ -1,5 +1,6 @@
 -- What each call answers, and what each buffer holds afterwards, for every input. The number in an answer is 0 where the work is done, which is ours:
 -- 01's numbers begin at 1. "A refusal carries its number and the edge count or figure 0; tables and pictures keep what they held."
+-- (What putting in and taking out answer and leave is in `Corrections`.)
 --
 -- Definitions
 --   ifDone number a b                        a where the number is 0, and else b

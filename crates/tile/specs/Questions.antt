@@ -12,7 +12,7 @@
 --   buildingQuestions, drawingQuestions,
 --   cellQuestions                          what building, pictures and greys, and one cell ask
 --   placedQuestions                        what building with a placement asks
---   outlineQuestions                       the same beside edges that are in already
+--   outlineQuestions                       the same beside edges that are in already; what putting in and taking out ask is in `Corrections`
 use mathlib.Core.Path.{_≡_}
 use mathlib.Core.Bool.{Bool, true, false, _&&_, cond}
 use mathlib.Core.List.{List, [], _∷_}

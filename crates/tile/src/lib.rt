@@ -92,7 +92,7 @@ const NO_PLACEMENT: u32 = 12;
 // Question 13: does the record count as many edges as are taken out?
 const NO_RECORD: u32 = 13;
 
-// Building begins with an empty table.
+// Building counts no edges but the outline's own.
 const NONE_IN: u32 = 0;
 
 // ---- the questions
@@ -173,7 +173,7 @@ fn is_picture(level: u32, size: usize) -> bool
 }
 
 // Question 9, which is asked of the whole table whatever is drawn of it. How many entries were looked at is 02's answer beside it: what the two say is
-// in specs/EntrySearch. The functions below ask question 9 through this one alone, and pass no count on.
+// in specs/EntrySearch. Question 9 is asked through this one alone, and no call passes the count on.
 fn search_entries(table: &[i64]) -> Searched
     ensures { λ s. ⌜ s .within ≡ question9 (now (table .entry)) .answer ⌝ }
     ensures { λ s. ⌜ s .looked ≡ entriesLookedAt (now (table .entry)) ⌝ }
@@ -325,8 +325,8 @@ pub fn build_placed(
 }
 
 // Puts a contour into a tile, which is a table with the record of its edge count: `points` has x and y of each of its `count` points in turn, and the
-// contour is these as placed. The answer is 0, and what the contour adds to each entry is in the table and its count in the record. Or it is the number
-// of the first question that is answered no, and table and record are as they were.
+// contour is these as placed. The answer is 0, and what the contour adds to each entry is added to the table, and its count to the record. Or it is the
+// number of the first question that is answered no, and table and record are as they were.
 pub fn put(
     side: u32,
     points: &[i64],
@@ -344,7 +344,8 @@ pub fn put(
     corrections::correct(side, Change::Put, points, count, placement, edges, table)
 }
 
-// Takes a contour out of a tile again: as `put`, with its values taken from the table and its count from the record.
+// Takes a contour out of a tile again: as `put`, with its values taken from the table and its count from the record. Whether the contour is in cannot be
+// told from a table: one that is not is taken out too, where the record counts enough edges.
 pub fn take(
     side: u32,
     points: &[i64],

@@ -4,11 +4,12 @@
  * closed contours of whole points, letters clockwise as seen on the page, the holes in them anticlockwise. Building turns it into a table of
  * Haar coefficients, from which pictures are drawn at full size (the deepest level, 6 for side 64) and at every halving, down to level 0.
  *
- * A table with a record of its edge count is a tile into which single contours may be put, and taken out again: what is left is what building
- * the contours that remain would leave.
+ * A table with a record of its edge count is a tile, into which single contours are put and out of which they are taken again. As long as each
+ * contour taken out was in, table and record are those of building the contours that remain.
  *
- * Each call answers 0 where the work is done, or the number of the first question that is answered no, and then no table, no picture and no
- * record has changed. The questions, in each call's order:
+ * Each call answers 0 where the work is done, or the number of the first question that is answered no. Then no table, no picture and no record
+ * has changed; but building writes 0 to *edges, and one cell to *figure, where they are refused. (So the record of a tile in use is not to be
+ * handed to building: where that is refused the table stays, and the record would be gone.) The questions, in each call's order:
  *
  *   building: 1, 2, 4, 5, 3, 6      building with a placement: 1, 2, 4, 5, 3, 12, 6
  *   putting in: 1, 2, 4, 5, 3, 12, 6, 9      taking out: 1, 2, 4, 5, 3, 12, 6, 13, 9
@@ -16,9 +17,9 @@
  *
  *    1  Is the side 1, 2, 4, 8, 16, 32 or 64?
  *    2  Has the table exactly side x side entries?
- *    3  Are the points exactly twice as many numbers as the counts' sum?
+ *    3  Are the points exactly twice as many numbers as the counts' sum? (Putting in and taking out have one count.)
  *    4  Is every count from 3 to 1,024?
- *    5  Is the counts' sum at most 1,024? For putting in: with the record's count.
+ *    5  Is the counts' sum at most 1,024? For putting in: the record's count and the contour's together. (Taking out is never answered 5.)
  *    6  Is every coordinate, as placed, from 0 to 256 x side?
  *    7  Is the level at most the depth, the number of halvings from the side to 1?
  *    8  Has the picture exactly 4^level places?
@@ -30,10 +31,10 @@
  *   13  Does the record count at least as many edges as are taken out?
  *
  * Numbers may be any. What the caller owes, since no function can ask it: a pointer is not NULL, even where its length is 0, is aligned for
- * what it points to, and as many elements as its length says are there; what is written overlaps nothing else that is passed; nobody else
- * writes any of it meanwhile; and floats are computed as C starts with them, subnormal numbers kept and no exception trapped (a program
- * linked with -ffast-math may have changed that). The calls keep no state and allocate nothing, so they may run on several threads at
- * once. */
+ * what it points to, and as many elements as its length says are there; what is written overlaps nothing else that is passed; meanwhile
+ * nobody else writes any of it, nor reads what is written (a call that is refused with 9 may have changed a table in between and put it
+ * back); and floats are computed as C starts with them, subnormal numbers kept and no exception trapped (a program linked with -ffast-math
+ * may have changed that). The calls keep no state and allocate nothing, so they may run on several threads at once. */
 #ifndef MATTULIYAN_H
 #define MATTULIYAN_H
 
@@ -69,8 +70,8 @@ uint32_t mattuliyan_put(uint32_t side, const int64_t *points, size_t points_leng
                         size_t placement_length, uint32_t *edges, int64_t *table, size_t table_length);
 
 /* Takes a contour out of a tile again: as mattuliyan_put, with its values taken from the table and its count from *edges. A contour is known
- * by its points as placed, so it may be taken out under another placement than it was put in, if that leads to the same points. Only a contour
- * that is in should be taken out: the call cannot tell, and takes out any whose count the record allows. */
+ * by its points as placed, in their order, so it may be taken out under another placement than it was put in, if that leads to the same
+ * points. Only a contour that is in should be taken out: the call cannot tell, and takes out any that passes its questions. */
 uint32_t mattuliyan_take(uint32_t side, const int64_t *points, size_t points_length, uint32_t count, const double *placement,
                          size_t placement_length, uint32_t *edges, int64_t *table, size_t table_length);
 
