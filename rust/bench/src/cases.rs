@@ -28,18 +28,21 @@ pub enum Case {
     Build,
     /// The same outline, by a quarter turn: as many edges in as many cells, so that what it takes longer is the placement's.
     BuildPlaced,
+    /// A speck taken out of the built table, and put back: two calls. It need not have been in, and the table is then what it was.
+    Correct,
     Draw(Size),
     BuildAndDraw(Size),
     Other(Library, Size),
 }
 
-use Case::{Build, BuildAndDraw, BuildPlaced, Draw, Other};
+use Case::{Build, BuildAndDraw, BuildPlaced, Correct, Draw, Other};
 use Size::{All, Full};
 
 /// In the order of the page, those that draw the same under one another.
-pub const CASES: [Case; 10] = [
+pub const CASES: [Case; 11] = [
     Build,
     BuildPlaced,
+    Correct,
     Draw(Full),
     Draw(All),
     BuildAndDraw(Full),
@@ -52,6 +55,10 @@ pub const CASES: [Case; 10] = [
 
 /// A quarter turn of the tile, clockwise: (x, y) goes to (the tile's width − y, x).
 const QUARTER_TURN: Placement = Placement::Turn([0.0, -1.0, GREATEST as f64, 1.0, 0.0, 0.0]);
+
+/// The speck: a rough octagon about half a pixel wide, near the middle of the tile.
+const SPECK: [i64; 16] =
+    [8192, 8130, 8236, 8149, 8255, 8192, 8236, 8236, 8192, 8255, 8149, 8236, 8130, 8192, 8149, 8149];
 
 impl Case {
     /// Those that can be run in this build.
@@ -78,6 +85,7 @@ impl Case {
         match self {
             Build => "building the table".into(),
             BuildPlaced => "building it with a placement, a turn".into(),
+            Correct => "a speck of 8 edges taken out, and put back".into(),
             Draw(Full) => "level 6 from the table".into(),
             Draw(All) => "all seven levels from the table".into(),
             BuildAndDraw(Full) => "**building, and level 6**".into(),
@@ -137,6 +145,7 @@ impl Work {
         match case {
             Build => self.build(),
             BuildPlaced => self.build_placed(),
+            Correct => self.correct(),
             Draw(size) => self.draw(size),
             BuildAndDraw(size) => {
                 self.build()?;
@@ -158,6 +167,16 @@ impl Work {
         let edges = mattuliyan::build_placed(SIDE, &outline.points, &outline.counts, QUARTER_TURN, table);
         black_box(table);
         all_edges(edges)
+    }
+
+    fn correct(&mut self) -> Result<(), String> {
+        let (speck, table) = black_box((&SPECK, &mut self.tiles[self.turn].table));
+        let (count, mut edges) = ((speck.len() / 2) as u32, EDGES as u32);
+        let answer = mattuliyan::take(SIDE, speck, count, Placement::None, &mut edges, table)
+            .and_then(|()| mattuliyan::put(SIDE, speck, count, Placement::None, &mut edges, table))
+            .map(|()| edges);
+        black_box(table);
+        all_edges(answer)
     }
 
     fn draw(&mut self, size: Size) -> Result<(), String> {
@@ -213,11 +232,11 @@ impl Work {
     }
 }
 
-/// Is this what building is to answer?
+/// Is this the outline's edge count?
 fn all_edges(answer: Result<u32, Refusal>) -> Result<(), String> {
     match answer {
         Ok(edges) if edges as usize == EDGES => Ok(()),
-        other => Err(format!("building answered {other:?}")),
+        other => Err(format!("the edge count is {other:?}")),
     }
 }
 
@@ -256,7 +275,7 @@ mod tests {
                 }
                 let levels = drawn.into_iter().filter(|&drawn| drawn).count();
                 let expected = match case {
-                    Build | BuildPlaced => 0,
+                    Build | BuildPlaced | Correct => 0,
                     Draw(Full) | BuildAndDraw(Full) | Other(_, Full) => 1,
                     Draw(All) | BuildAndDraw(All) | Other(_, All) => 7,
                 };
@@ -279,6 +298,19 @@ mod tests {
             let (x, y) = (at % side, at / side);
             assert!(grey.abs_diff(upright[(side - 1 - x) * side + y]) <= 1, "({x}, {y})");
         }
+    }
+
+    #[test]
+    fn a_speck_taken_out_and_put_back_leaves_the_table() {
+        let mut work = Work::new(Input::Letter, 1).unwrap();
+        let before = work.tiles[0].table.clone();
+        work.run_all(Correct).unwrap();
+        assert_eq!(work.tiles[0].table, before);
+
+        // and the speck is somewhere
+        let mut edges = EDGES as u32;
+        mattuliyan::take(SIDE, &SPECK, 8, Placement::None, &mut edges, &mut work.tiles[0].table).unwrap();
+        assert_ne!(work.tiles[0].table, before);
     }
 
     #[test]

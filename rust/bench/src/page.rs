@@ -117,7 +117,8 @@ fn how_measured() -> String {
          less one that runs it once. A few in a thousand depend on the addresses that memory gets.\n\
          - **Building** asks all its questions and clears its table, and **drawing** looks at the whole table, all in range here, \
          before each level: both are in the times. The **placement** is a quarter turn, which leaves as many edges in as many cells: \
-         what it takes longer is the placing of the points.\n\
+         what it takes longer is the placing of the points. Of a **speck** taken out and put back, most of the time goes into looking \
+         at the whole table, which each of the two calls does before and after.\n\
          - **FreeType and AGG** have no table. Each size is a drawing of its own, from the outline scaled to it; scaling and \
          clearing the bitmap are in the times, opening the library, or making the rasteriser and its memory, is not.\n\
          - **FreeType** takes points in 1/64 pixel, to which ours are rounded; AGG takes 1/256, as ours are. Both fill where \
