@@ -24,7 +24,7 @@ use Rattle.tile.specs.declared.corrections.Change.{Change}
 use Rattle.tile.specs.declared.corrections.Change.the-variants.{Put, Take}
 use Rattle.tile.specs.Questions.{Yes, depthOf, question9}
 use Rattle.tile.specs.Corrections.{Tile, Call, contourOf, signOf, wouldLeave, contourQuestions}
-use Rattle.tile.specs.Laws.AskedContour.{sign-within, contour-count, few-edges, contour-edges-on, edges-counted}
+use Rattle.tile.specs.Laws.AskedContour.{sign-within, contour-count, few-edges, contour-edges-on, contour-edge-count}
 use Rattle.tile.proofs.Room.{in-range-fits}
 
 -- ---- room
@@ -47,7 +47,7 @@ module _ (k : Call) (t : Tile) (yes : All Yes (contourQuestions k t)) (yes9 : Ye
   pub fits-again : Fits (wouldLeave k t) (depthOf (k .side)) n
   fits-again =
       let es = contourEdges (contourOf k) in
-      let same : length es ≡ n = edges-counted k t yes ∙ sym counted in
+      let same : length es ≡ n = contour-edge-count k t yes ∙ sym counted in
       fits-edges (sign-within (k .change)) es n (contour-edges-on k t yes) (fits-le (omega (arith, same)) fits-twice)
 
 -- ---- the sign

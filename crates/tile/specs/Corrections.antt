@@ -42,7 +42,7 @@ pub record Call : Type 0 where
   pub placement : Placement
 
 -- ---- the contour
--- in the order in which they are joined, from the first one on
+-- its points in the order in which they are joined, from the first one on
 abbrev pub Contour : Type 0
 Contour = List Point
 

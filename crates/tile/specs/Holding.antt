@@ -4,8 +4,8 @@
 -- reports; and what is drawn of it is as near to their ink as demand 3 has it of one drawn afresh. `put` and `take` have in their contracts that they go
 -- from such a tile to such a tile.
 --
--- This is said of the tile and not of how it came about: a contour and the same one walked the other way leave an empty table and six edges, and so does
--- any other such pair of triangles. Which contours were put in is said by a series of calls (`Series`).
+-- This is said of the tile and not of how it came about: a triangle and the same one walked the other way leave a table of zeros and six edges, and so
+-- does any other such pair. Which contours were put in is said by a series of calls (`Series`).
 --
 -- Definitions
 --   coordinatesOf, coordinates,

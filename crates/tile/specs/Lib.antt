@@ -26,7 +26,7 @@ pub mod Corrections
 pub mod CorrectingRefusals
 -- taking out is the inverse of putting in
 pub mod Inverse
--- what a tile holds, what each call makes of it, and the law of a series of calls, with that it holds
+-- what a tile holds, what each call makes of it, the law of a series of calls, and that it holds
 pub mod Holding
 pub mod Series
 pub mod SeriesTheorem

@@ -1,9 +1,9 @@
--- What a tile that holds contours does not refuse: taking out one that it holds, and putting in what is a contour as long as there are not too many edges;
--- and no call is answered 9. So there are series of corrections, and an example is one.
+-- What a tile that holds contours does not refuse: taking out one that it holds, and putting in what passes the questions about a contour, as long as there
+-- are not too many edges; and no call is answered 9. So there are series of corrections, and an example is one.
 --
 -- Main results
 --   never-9                      no call on a tile that holds contours is answered 9
---   put-accepted                 a contour that is one, and not too many edges, can be put in
+--   put-accepted                 points that pass questions 4, 3, 12 and 6 can be put in, if there is room (5)
 --   take-accepted                a contour that is in can be taken out
 --   take-as-it-lies              and also with no placement, by the points that it has as placed
 --   example                      a series: two calls that are refused, two contours put in, one by a shift, and that one taken out as it lies; the other remains

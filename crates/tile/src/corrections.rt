@@ -1,7 +1,7 @@
 // A contour put into a tile, or taken out again: one function does both.
 //
-// All questions but one are asked before anything is written. The last, whether the table that would be left is in range, is asked of the table with the
-// contour in it; where it is not in range the contour is undone, and every entry is what it was. So no copy of the table is kept.
+// All questions but one are asked before anything is written. The last, whether the table that would be left is in range, is asked of the table once the
+// change is made; where it is not in range the change is undone, and every entry is what it was. So no copy of the table is kept.
 ghost use mathlib.Core.Path.{_≡_};
 ghost use Prim.Native.Nat.{_+_, _≤_};
 ghost use Rattle.integers.specs.Units.{mostEdges};

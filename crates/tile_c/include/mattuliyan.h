@@ -7,9 +7,10 @@
  * A table with a record of its edge count is a tile, into which single contours are put and out of which they are taken again. As long as each
  * contour taken out was in, table and record are those of building the contours that remain.
  *
- * Each call answers 0 where the work is done, or the number of the first question that is answered no. Then no table, no picture and no record
- * has changed; but building writes 0 to *edges, and one cell to *figure, where they are refused. (So the record of a tile in use is not to be
- * handed to building: where that is refused the table stays, and the record would be gone.) The questions, in each call's order:
+ * Each call answers 0 where the work is done, or the number of the first question that is answered no. Then no table, no picture and no
+ * record has changed; but mattuliyan_build and mattuliyan_build_placed then write 0 to *edges, and mattuliyan_cell to *figure. (So the
+ * record of a tile in use is not to be handed to building: where that is refused the table stays, and the record would be gone.) The
+ * questions, in each call's order:
  *
  *   building: 1, 2, 4, 5, 3, 6      building with a placement: 1, 2, 4, 5, 3, 12, 6
  *   putting in: 1, 2, 4, 5, 3, 12, 6, 9      taking out: 1, 2, 4, 5, 3, 12, 6, 13, 9

@@ -164,7 +164,7 @@ pub fn correcting(random: &mut Random, mut call: Correcting) -> Correcting {
 }
 
 /// A record that may be any, and mostly is near to where questions 5 and 13 turn: with the contour's edges about as many as there may be, about as
-/// many as the contour has, about 0, which are the ends of 32 bits, and what is lost where only 16 bits are looked at.
+/// many as the contour has, about 0, and so at both ends of 32 bits, and what is lost where only 16 bits are looked at.
 pub fn any_record(random: &mut Random, count: u32) -> u32 {
     let beside = random.within(-2, 2) as u32;
     let about = match random.index(6) {
@@ -177,7 +177,7 @@ pub fn any_record(random: &mut Random, count: u32) -> u32 {
     about.wrapping_add(beside)
 }
 
-/// The table becomes one that the contour takes to the limit, in every entry or in one, and once in a while one past it there.
+/// The table becomes one that the contour takes to the limit, in every entry or in one, and half the time one past it there.
 fn to_the_limit(random: &mut Random, call: &mut Correcting) {
     let mut own = vec![0; call.tile.table.len()];
     let placement = placements::for_library(call.placement);

@@ -350,13 +350,13 @@ mod tests {
     }
 
     #[test]
-    fn contours_alone_are_accepted_ones() {
+    fn contours_alone_are_accepted() {
         let mut random = Random::new(5);
         for number in 0..2100 {
             let (side, count) = (SIDES[number % 7], random.within(3, 40) as u32);
             let points = contour(&mut random, side, count);
-            assert_eq!(points.len(), 2 * count as usize);
-            assert!(points.iter().all(|&c| 0 <= c && c <= STEPS * side as i64));
+            let mut table = vec![0; (side * side) as usize];
+            assert_eq!(mattuliyan::build(side, &points, &[count], &mut table), Ok(count));
         }
     }
 

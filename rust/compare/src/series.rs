@@ -1,10 +1,10 @@
 //! Series of corrections: contours are put into a tile and taken out of it, by the library, by its own type for tiles and by the reference.
 //!
-//! A series begins with an empty tile, or with what building left. Each contour that is taken out is in the tile, and comes under another
+//! A series begins with an empty tile, or with what building left. Each contour that is taken out is in the tile, and mostly comes under another
 //! placement than it was put in, which leads to the same points. At the end the tile is what building the contours that remain leaves, in another
-//! order and in a table that held anything; and once in a while what is drawn is held to exact areas. Between these calls others are made on copies of the tile, so that the series stays what it is: calls
-//! that may be refused ([`damage`]), and contours taken out that are not in. Then there are tiles that no series leaves, of any record and with
-//! entries up to the limit.
+//! order and in a table that held anything; and once in a while what is drawn is held to exact areas. Between these calls others are made on
+//! copies of the tile, so that the series stays what it is: calls that may be refused ([`damage`]), and contours taken out that are not in. Then
+//! there are tiles that no series leaves, of any record and with entries up to the limit.
 use crate::calls::{self, Correcting, Difference, Tile};
 use crate::outlines::{self, Outline, FEWEST_POINTS, MOST_EDGES, SIDES};
 use crate::random::Random;

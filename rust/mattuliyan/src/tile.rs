@@ -1,4 +1,4 @@
-//! A tile for people: a table with the record of its edge count.
+//! A tile that keeps its table and the record of its edge count together.
 use crate::{Placement, Refusal};
 
 /// The greatest side of a tile.

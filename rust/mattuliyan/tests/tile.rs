@@ -1,4 +1,4 @@
-//! The tile for people: what it refuses, that a refused call leaves it as it was, and that it is drawn as its table is.
+//! `Tile`: what it refuses, that a refused call leaves it as it was, and that it is drawn as its table is.
 use mattuliyan::{Placement, Refusal, Tile};
 
 /// On a tile of 2 pixels, 01's letters A, F and G.
@@ -73,7 +73,7 @@ fn refused_calls_change_nothing() {
     let endless = Placement::Scale(f64::INFINITY);
     let tile = Tile::build(2, &[F, F].concat(), &[3, 3], Placement::None).unwrap();
     for (points, placement, put, taken) in [
-        // whole points, and a coordinate more: 0, 2, 3, 1,024 and 1,025 of them
+        // whole points, and a coordinate more
         (&[][..], Placement::None, Err(4), Err(4)),
         (&[0], Placement::None, Err(4), Err(4)),
         (&[0; 4], Placement::None, Err(4), Err(4)),

@@ -262,7 +262,7 @@ fn question_9_of_other_tables() {
     assert_eq!(answers(&OnlyAfter), [[true, false, true, false]; 2]);
     assert_eq!(answers(&OnlyRoot), [right, right]);
     assert_eq!(answers(&OnlyChanged), [right, right]);
-    // Even entries at the ends of 64 bits are written, however wrongly.
+    // Entries at the ends of 64 bits make no variant panic.
     for end in [i64::MIN, i64::MAX] {
         for rules in [&OnlyBefore as &dyn Rules, &OnlyAfter, &NotPutBack, &CountedFirst] {
             assert_eq!(half(PutIn, 3, end).outcome(rules).0, Err(9));

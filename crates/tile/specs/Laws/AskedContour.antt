@@ -4,10 +4,10 @@
 --   sign-within                  what its values are multiplied by
 --   contour-count                its points are as many as the call's count
 --   contour-coordinates          its coordinates are those of the call, as placed
---   few-edges                    these are no more than the most, with those that question 5 counts beside them
+--   few-edges                    its edges are no more than the most, with those that question 5 counts beside them
 --   contour-accepted             it is a contour that building accepts
 --   contour-on, contour-edges-on its points and its edges are on the tile
---   edges-counted                its edges are as many as the count
+--   contour-edge-count           its edges are as many as the count
 --   part-within                  what it adds to an entry, or takes from it, is at most what the most edges add
 use mathlib.Core.Path.{_≡_, _∙_, ap}
 use mathlib.Core.Bool.{true}
@@ -86,11 +86,11 @@ module _ (k : Call) (t : Tile) (yes : All Yes (contourQuestions k t)) where
   pub contour-edges-on : All (EdgeOnTile (depthOf side)) (contourEdges (contourOf k))
   contour-edges-on = contour-on-tile (depthOf side) (contourOf k) contour-on
 
-  pub edges-counted : length (contourEdges (contourOf k)) ≡ k .count
-  edges-counted = contourEdges-length (contourOf k) ∙ contour-count k yes3
+  pub contour-edge-count : length (contourEdges (contourOf k)) ≡ k .count
+  contour-edge-count = contourEdges-length (contourOf k) ∙ contour-count k yes3
 
   pub part-within : (i : ℕ) → Within (pos builtEntryLimit) (signOf (k .change) *ℤ part side (contourOf k) i)
   part-within i =
-      let few : length (contourEdges (contourOf k)) ≤ mostEdges = omega (arith, edges-counted, few-edges) in
+      let few : length (contourEdges (contourOf k)) ≤ mostEdges = omega (arith, contour-edge-count, few-edges) in
       signed-within (sign-within (k .change))
       (within-le (pos-≤ℤ (mul-le-mul-right detailLimit few)) (outline-entry-within (contourEdges (contourOf k)) (side-depth side (yes .0)) contour-edges-on i))

@@ -4,7 +4,7 @@
 --   built-is                     what building leaves
 --   table-length                 the table of a list of edges has side × side entries; `tableOf` is that of an outline's
 --   table-same                   it holds the coefficients of the edges' table
---   table-within, table-in-range its entries are those of the most edges at most, and so in question 9's range
+--   table-within, table-in-range its entries are at most what the most edges add, and so in question 9's range
 use mathlib.Core.Path.{_≡_, sym, _∙_, ap}
 use mathlib.Core.List.{List}
 use Prim.Native.Nat.{ℕ, _*_, _≤_}

@@ -42,7 +42,7 @@ use Rattle.tile.specs.Laws.Sides.{side-cells}
 use Rattle.tile.specs.Laws.Answers.{in-range-entries}
 use Rattle.tile.specs.Laws.Accepted.{accepted, AcceptedEdges, accepted-edges}
 use Rattle.tile.specs.Laws.BuiltTable.{built-is, table-within}
-use Rattle.tile.specs.Laws.Written.{isContour, contours-back, edges-counted, written-accepted}
+use Rattle.tile.specs.Laws.Written.{isContour, contours-back, contours-edges, written-accepted}
 use Rattle.tile.specs.Laws.AddingUp.{AddsUp, adds-up-perm}
 
 pub record Sums (side : ℕ) (cs : List Contour) (t : Tile) : Type 0 where
@@ -94,7 +94,7 @@ module _ {side : ℕ} {cs : List Contour} {t : Tile} (s : Sums side cs t) where
 
   count-built : (before : List ℤ) → length before ≡ side * side → buildResult side (coordinates cs) (countsOf cs) before ≡ builtAs 0 (t .edges)
   count-built before e =
-      let done = building-accepts before e in ap₂ builtAs done (if-done _ 0 done ∙ edges-counted cs ∙ sym (s .adds-up .edges-is))
+      let done = building-accepts before e in ap₂ builtAs done (if-done _ 0 done ∙ contours-edges cs ∙ sym (s .adds-up .edges-is))
 
   abbrev blank : List ℤ
   blank = replicate (side * side) (pos 0)
@@ -143,7 +143,7 @@ sums-of-built side cs t before done table edges =
     let y = written-accepted side cs before .0 done in
     record {
       is-side = y .0;
-      adds-up = record { table-is = table ∙ sym (parts-table side cs (y .0)); edges-is = edges ∙ edges-counted cs };
+      adds-up = record { table-is = table ∙ sym (parts-table side cs (y .0)); edges-is = edges ∙ contours-edges cs };
       few = y .3;
       right = y .2;
     }

@@ -1,6 +1,8 @@
 -- A call that is not refused takes a tile that holds contours to one that holds one more, or one fewer.
 --
 -- Main results
+--   accepted-questions,
+--   about-contour                the answers of a call that is not refused, all of them and those about its contour
 --   corrected-is                 the tile that such a call leaves
 --   holds-put, holds-taken       what it holds
 --   same-side                    it has the tile's side

@@ -4,10 +4,10 @@
 -- Main results
 --   isContour side c             questions 4 and 6 of one contour
 --   contours-back                the contours of the outline are those that it was made of
---   back-points, coordinatesOf-length,
---   points-back                  the coordinates of a contour's points are those that it was read from
+--   back-points, points-back     points and their coordinates undo each other
+--   coordinatesOf-length         there are two coordinates for each point
 --   coordinates-back             the outline of contours that were read from an outline is that one
---   edges-counted                its edge count
+--   contours-edges                its edge count
 --   written-accepted             when building accepts it
 use mathlib.Core.Path.{_≡_, refl, sym, _∙_, ap, ap₂, subst, subst⁻¹}
 use mathlib.Core.Logic.{_↔_}
@@ -70,10 +70,10 @@ coordinates-back (n ∷ counts) points e =
     let rest = coordinates-back counts (drop (2 * n) points) (omega (arith, length-drop (2 * n) points)) in
     (ap₂ _++_ (points-back n (take (2 * n) points) first) (rest .0) ∙ take-append-drop (2 * n) points, ap₂ _∷_ (taken-points n points (omega arith)) (rest .1))
 
-pub edges-counted : (cs : List Contour) → edgeCount (countsOf cs) ≡ tally length cs
+pub contours-edges : (cs : List Contour) → edgeCount (countsOf cs) ≡ tally length cs
 unfolding tally
-edges-counted [] = refl
-edges-counted (c ∷ cs) = ap (λ n. length c + n) (edges-counted cs)
+contours-edges [] = refl
+contours-edges (c ∷ cs) = ap (λ n. length c + n) (contours-edges cs)
 
 coordinates-length : (cs : List Contour) → length (coordinates cs) ≡ 2 * edgeCount (countsOf cs)
 unfolding coordinates tally
@@ -98,7 +98,7 @@ contours-asked side cs =
     every-both (λ c. question4 (length c ∷ []) .answer) (λ c. question6 side (coordinatesOf c) .answer) cs
     ∙ sym (ap₂ _&&_ (counts-asked cs) (coordinates-asked side cs))
 
--- the answers that do not depend on the table
+-- when building accepts it
 pub written-accepted : (side : ℕ) (cs : List Contour) (before : List ℤ) → (buildRefusal side (coordinates cs) (countsOf cs) before ≡ 0)
     ↔ (Yes (question1 side) × Yes (question2 side before) × (every (isContour side) cs ≡ true) × (tally length cs ≤ mostEdges))
 written-accepted side cs before =
@@ -110,8 +110,8 @@ written-accepted side cs before =
         y .0,
         y .1 .0,
         contours-asked side cs ∙ both .1 (y .1 .1 .0, y .1 .1 .1 .1 .1 .0),
-        subst (λ n. n ≤ mostEdges) (edges-counted cs) (few .0 (y .1 .1 .1 .0)),
+        subst (λ n. n ≤ mostEdges) (contours-edges cs) (few .0 (y .1 .1 .1 .0)),
       )),
       λ h. (let right = both .0 (sym (contours-asked side cs) ∙ h .2) in
-          all .1 (h .0, (h .1, (right .0, (few .1 (subst⁻¹ (λ n. n ≤ mostEdges) (edges-counted cs) (h .3)), (enough, (right .1, tt))))))),
+          all .1 (h .0, (h .1, (right .0, (few .1 (subst⁻¹ (λ n. n ≤ mostEdges) (contours-edges cs) (h .3)), (enough, (right .1, tt))))))),
     )

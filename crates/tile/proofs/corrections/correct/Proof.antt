@@ -1,4 +1,4 @@
--- A refused call leaves everything as it was, also where the contour was in already: it is undone. Else the contour is in, and counted.
+-- A refused call leaves everything as it was, also where the table was changed: that is undone. Else the change stays, and the record with it.
 use mathlib.Core.Path.{_≡_, refl, sym, _∙_, ap, ap₂, subst, subst⁻¹}
 use mathlib.Core.Bool.{Bool, false, _&&_, cond}
 use mathlib.Core.Logic.{_≢_}
@@ -116,7 +116,7 @@ returns-3 c =
     let number = sym (nine f (ap (λ b. b && question9 (wouldLeave (call s) (given s)) .answer) out)) in
     (number, (kept s number (λ z. absurd (omega (arith, z))), refl))
 
--- ---- the contour goes in
+-- ---- the change is made
 in-range : (c : tie.Else3) → Yes (question9 (given (from (c .before .before)) .table))
 in-range c = sym (c .before .before .search-entries .ensures .0) ∙ not-false _ (c .if3 .left)
 
