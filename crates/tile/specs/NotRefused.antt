@@ -167,5 +167,5 @@ example =
     let p : Perm (contourOf plain ∷ contourOf shifted ∷ []) (contourOf lying ∷ contourOf plain ∷ []) =
     subst (λ c. Perm (contourOf plain ∷ contourOf shifted ∷ []) (c ∷ contourOf plain ∷ [])) same-contour (Perm·swap (contourOf shifted) (contourOf plain) []) in
     let out = take-accepted holds-two triangle 3 None p refl refl in
-    refused (λ z. absurd (omega (arith, sym too-early ∙ z)))
-    (refused (λ z. absurd (omega (arith, sym other-side ∙ z))) (put first refl (put second refl (taken out refl p none))))
+    refused (λ (z : correctRefusal early (emptyTile 2) ≡ 0). absurd (omega (arith, sym too-early ∙ z)))
+    (refused (λ (z : correctRefusal elsewhere (corrected early (emptyTile 2)) ≡ 0). absurd (omega (arith, sym other-side ∙ z))) (put first refl (put second refl (taken out refl p none))))
