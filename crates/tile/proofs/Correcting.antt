@@ -3,12 +3,11 @@
 -- Main results
 --   fits-contour, fits-again     there is room for its edges, and for taking them out again
 --   opposite-fits, back-within   the opposite of a sign is one
-use mathlib.Core.Path.{_≡_, sym, _∙_, ap}
+use mathlib.Core.Path.{_≡_, sym, _∙_, ap, subst}
 use Prim.Native.Nat.{ℕ, _+_, _/_}
 use native.Mathlib.Omega.{arith}
 use lib.ListN.{length}
 use lib.IntN.{pos, _-ℤ_}
-use lib.Signed.{leZ-yes}
 use mir.Syntax.{w64}
 use mir.Val.{SFits}
 use mir.Facts.{sfits-lit}
@@ -24,7 +23,7 @@ use Rattle.tile.specs.declared.corrections.Change.{Change}
 use Rattle.tile.specs.declared.corrections.Change.the-variants.{Put, Take}
 use Rattle.tile.specs.Questions.{Yes, depthOf, question9}
 use Rattle.tile.specs.Corrections.{Tile, Call, contourOf, signOf, wouldLeave, contourQuestions}
-use Rattle.tile.specs.Laws.AskedContour.{sign-within, contour-count, few-edges, contour-edges-on, contour-edge-count}
+use Rattle.tile.specs.Laws.AskedContour.{sign-within, opposite, sign-opposite, contour-count, few-edges, contour-edges-on, contour-edge-count}
 use Rattle.tile.proofs.Room.{in-range-fits}
 
 -- ---- room
@@ -52,8 +51,7 @@ module _ (k : Call) (t : Tile) (yes : All Yes (contourQuestions k t)) (yes9 : Ye
 
 -- ---- the sign
 pub back-within : (x : Change) → Within (pos 1) (pos 0 -ℤ signOf x)
-back-within Put = record { low = leZ-yes tt; high = leZ-yes tt }
-back-within Take = record { low = leZ-yes tt; high = leZ-yes tt }
+back-within x = subst (Within (pos 1)) (sign-opposite x) (sign-within (opposite x))
 
 pub opposite-fits : (x : Change) → SFits w64 (pos 0 -ℤ signOf x)
 opposite-fits Put = sfits-lit tt

@@ -4,14 +4,14 @@
 -- Main results
 --   put-then-take                taking out what was put in
 --   take-then-put                putting back what was taken out: where the record counted no more edges than the most, since else question 5 refuses it
-use mathlib.Core.Path.{_≡_, refl, _∙_, ap, ap₂}
+use mathlib.Core.Path.{_≡_, _∙_, ap, ap₂}
 use mathlib.Core.Bool.{_&&_}
 use mathlib.Core.List.{List, [], _∷_}
 use Prim.Native.Nat.{ℕ, _+_, _*_, _≤_}
 use native.Mathlib.Omega.{arith}
 use borrow.Author.Tests.{le-leb}
 use lib.ListN.{length}
-use lib.IntN.{ℤ, pos, _-ℤ_, _*ℤ_}
+use lib.IntN.{ℤ, _*ℤ_}
 use Rattle.integers.specs.Units.{mostEdges}
 use Rattle.integers.specs.ListSum.{all-append, tally}
 use Rattle.integers.specs.Tests.{and-true-means}
@@ -26,12 +26,8 @@ use Rattle.tile.specs.Refusals.{question2-means}
 use Rattle.tile.specs.Corrections.{Tile, Call, tileOf, callOf, putting, taking, contourOf, part, signOf, alreadyIn, takenOut, wouldLeave, edgesAfter, contourQuestions, tileQuestions, correctRefusal, corrected}
 use Rattle.tile.specs.CorrectingRefusals.{correcting-refusals, question13-means}
 use Rattle.tile.specs.Laws.IfDone.{if-done}
-use Rattle.tile.specs.Laws.AskedContour.{few-edges}
+use Rattle.tile.specs.Laws.AskedContour.{opposite, sign-opposite, few-edges}
 use Rattle.tile.specs.Laws.Kept.{accepted-questions, about-contour}
-
-abbrev opposite : Change → Change
-opposite Put = Take
-opposite Take = Put
 
 -- ---- what a change does, the opposite one undoes
 module _ (count edges : ℕ) where
@@ -47,10 +43,6 @@ module _ (count edges : ℕ) where
   edges-again : (c : Change) → takenOut c count ≤ edges → edgesAfter (opposite c) count (edgesAfter c count edges) ≡ edges
   edges-again Put out = omega arith
   edges-again Take out = omega (arith, out)
-
-sign-again : (c : Change) → signOf (opposite c) ≡ pos 0 -ℤ signOf c
-sign-again Put = refl
-sign-again Take = refl
 
 -- ---- so does the call
 module _ (change : Change) (side : ℕ) (points : List ℤ) (count : ℕ) (placement : Placement) (t : Tile)
@@ -69,7 +61,7 @@ module _ (change : Change) (side : ℕ) (points : List ℤ) (count : ℕ) (place
 
   restored : wouldLeave back left ≡ t .table
   restored =
-      ap (λ s. added (wouldLeave k t) (λ i. s *ℤ part side (contourOf k) i)) (sign-again change) ∙ added-undone (t .table) (signOf change) (part side (contourOf k))
+      ap (λ s. added (wouldLeave k t) (λ i. s *ℤ part side (contourOf k) i)) (sign-opposite change) ∙ added-undone (t .table) (signOf change) (part side (contourOf k))
 
   accepted-back : correctRefusal back left ≡ 0
   unfolding tally

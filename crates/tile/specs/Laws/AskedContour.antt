@@ -2,6 +2,7 @@
 --
 -- Main results
 --   sign-within                  what its values are multiplied by
+--   opposite, sign-opposite      and what undoes that
 --   contour-count                its points are as many as the call's count
 --   contour-coordinates          its coordinates are those of the call, as placed
 --   few-edges                    its edges are no more than the most, with those that question 5 counts beside them
@@ -9,14 +10,14 @@
 --   contour-on, contour-edges-on its points and its edges are on the tile
 --   contour-edge-count           its edges are as many as the count
 --   part-within                  what it adds to an entry, or takes from it, is at most what the most edges add
-use mathlib.Core.Path.{_≡_, _∙_, ap}
+use mathlib.Core.Path.{_≡_, refl, _∙_, ap}
 use mathlib.Core.Bool.{true}
 use mathlib.Core.List.{List, [], _∷_}
 use Prim.Native.Nat.{ℕ, _+_, _*_, _/_, _≤_}
 use native.Mathlib.Omega.{arith}
 use native.Mathlib.Nat.{mul-le-mul-right}
 use lib.ListN.{length}
-use lib.IntN.{ℤ, pos, _*ℤ_}
+use lib.IntN.{ℤ, pos, _-ℤ_, _*ℤ_}
 use lib.Signed.{leZ-yes}
 use Rattle.integers.specs.Units.{mostEdges, builtEntryLimit, detailLimit}
 use Rattle.integers.specs.Order.{pos-≤ℤ}
@@ -44,6 +45,14 @@ use Rattle.tile.specs.Laws.Written.{isContour, points-back}
 pub sign-within : (x : Change) → Within (pos 1) (signOf x)
 sign-within Put = record { low = leZ-yes tt; high = leZ-yes tt }
 sign-within Take = record { low = leZ-yes tt; high = leZ-yes tt }
+
+abbrev pub opposite : Change → Change
+opposite Put = Take
+opposite Take = Put
+
+pub sign-opposite : (x : Change) → signOf (opposite x) ≡ pos 0 -ℤ signOf x
+sign-opposite Put = refl
+sign-opposite Take = refl
 
 -- ---- by question 3 alone
 module _ (k : Call) (yes3 : Yes (question3 (k .points) (k .count ∷ []))) where
