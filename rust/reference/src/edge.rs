@@ -182,6 +182,24 @@ impl Edge {
         let den = self.denominator();
         [upper + lower, v_sign * exchanged, upper - lower].map(|num| Fraction { num, den })
     }
+
+    /// Whether some part of the edge "lies strictly inside" a cell, as 02 says
+    /// it. It does unless a line parts the two, along a side of the cell or
+    /// along the edge: a cell without its sides and an edge are convex.
+    pub fn comes_inside(self, cell: Cell) -> bool {
+        let Edge { x0, y0, x1, y1 } = self;
+        let (right, bottom) = (cell.left + cell.width, cell.top + cell.width);
+        let beside = x0.max(x1) <= cell.left || right <= x0.min(x1);
+        let off = y0.max(y1) <= cell.top || bottom <= y0.min(y1);
+        if beside || off {
+            return false;
+        }
+        // A single point has no line of its own.
+        let (dx, dy) = (i128::from(x1 - x0), i128::from(y1 - y0));
+        let side = |(x, y): (i64, i64)| dx * i128::from(y - y0) - dy * i128::from(x - x0);
+        let corners = [(cell.left, cell.top), (right, cell.top), (cell.left, bottom), (right, bottom)].map(side);
+        (dx, dy) == (0, 0) || (corners.iter().any(|&side| side < 0) && corners.iter().any(|&side| side > 0))
+    }
 }
 
 /// The stretch of an edge between two heights.
@@ -306,6 +324,34 @@ mod tests {
             assert!(same(details[2], d), "d of {edge:?} in {cell:?}");
         }
         assert!(fractions > 500, "too few edges with a true fraction: {fractions}");
+    }
+
+    /// Between two of |dx| × |dy| equal slices' ends no side of a cell is
+    /// crossed, so some part lies inside where the middle of some slice does.
+    #[test]
+    fn parts_inside_agree_with_slices() {
+        let mut numbers = randoms(2);
+        let mut random = |below: i64| numbers(below.into()) as i64;
+        let mut inside = 0;
+        for _ in 0..4000 {
+            let reach = 1 + random(25);
+            let edge = Edge { x0: random(reach), y0: random(reach), x1: random(reach), y1: random(reach) };
+            let cell = Cell { left: random(16), top: random(16), width: 2 * random(6) };
+            let (dx, dy) = (edge.x1 - edge.x0, edge.y1 - edge.y0);
+            let slices = dx.abs().max(1) * dy.abs().max(1);
+            let within = |at: i64, low: i64| {
+                let scale = 2 * slices;
+                low * scale < at && at < (low + cell.width) * scale
+            };
+            let middle = |i: i64| {
+                let at = |from: i64, run: i64| from * 2 * slices + run * (2 * i + 1);
+                within(at(edge.x0, dx), cell.left) && within(at(edge.y0, dy), cell.top)
+            };
+            let expected = (0..slices).any(middle);
+            assert_eq!(edge.comes_inside(cell), expected, "{edge:?} in {cell:?}");
+            inside += usize::from(expected);
+        }
+        assert!(inside > 500 && inside < 3500, "{inside} of 4,000 edges come inside");
     }
 
     #[test]

@@ -75,14 +75,22 @@
 //! compares a product with this reference can check that the comparison would
 //! notice.
 //!
+//! # Stored answers
+//!
+//! The module [`answers`] makes what the project stores of its programs'
+//! answers, and the program `answers` writes it. Whoever changes a rule runs
+//! that, and the difference shows what the change moves.
+//!
 //! # Reading order
 //!
 //! `rules`, `questions`, `placement`, `edge`, `table`, `correction`, `picture`,
-//! `area`, `frame`; then `exact` and `big`, the arithmetic below; then `wrong`.
+//! `area`, `frame`; then `exact` and `big`, the arithmetic below; then `wrong`
+//! and `answers`.
 
 #![forbid(unsafe_code)]
 #![warn(missing_docs)]
 
+pub mod answers;
 mod area;
 mod big;
 mod correction;

@@ -1,0 +1,140 @@
+//! The stored answers are the reference's, and the program that makes them
+//! anew writes what it should.
+
+use reference::answers::{self, Answer, COMMAND};
+use std::fs;
+use std::path::{Path, PathBuf};
+use std::process::{Command, Output};
+
+/// The project's top folder.
+fn top() -> PathBuf {
+    Path::new(env!("CARGO_MANIFEST_DIR")).join("../..")
+}
+
+fn all() -> Vec<Answer> {
+    answers::all(&top()).unwrap_or_else(|amiss| panic!("{amiss}"))
+}
+
+#[test]
+fn stored_answers_are_the_reference_s() {
+    let answers = all();
+    let of = |folder: &str| answers.iter().filter(|answer| answer.name.starts_with(folder)).count();
+    assert!(of("tests/frames/") > 100 && of("crates/") == 5, "{} answers", answers.len());
+    let differ = answers.iter().filter_map(|answer| answer.difference(&top()).unwrap_or_else(Some));
+    let differ: Vec<String> = differ.collect();
+    assert!(differ.is_empty(), "{}\n`{COMMAND}`, given in rust/, makes them anew", differ.join("\n"));
+}
+
+/// The frame of a test's own project.
+const FRAME: &str = "tests/frames/letter_a_level_0";
+
+/// A project of this test's own: a frame and each program's cases, with the
+/// answers that are stored here.
+fn project(test: &str) -> PathBuf {
+    let project = Path::new(env!("CARGO_TARGET_TMPDIR")).join(test);
+    if project.exists() {
+        fs::remove_dir_all(&project).unwrap();
+    }
+    for answer in all() {
+        let cases = match answer.name.strip_suffix("stdout") {
+            Some(folder) => format!("{folder}stdin"),
+            None if answer.name == format!("{FRAME}.answer") => format!("{FRAME}.frame"),
+            None => continue,
+        };
+        fs::create_dir_all(project.join(&answer.name).parent().unwrap()).unwrap();
+        answer.store(&project).unwrap();
+        if top().join(&cases).exists() {
+            fs::copy(top().join(&cases), project.join(&cases)).unwrap();
+        }
+    }
+    project
+}
+
+fn run(project: &Path) -> Output {
+    Command::new(env!("CARGO_BIN_EXE_answers")).arg(project).output().unwrap()
+}
+
+fn text(output: &[u8]) -> String {
+    String::from_utf8(output.to_vec()).unwrap()
+}
+
+#[test]
+fn what_changes_is_written() {
+    let project = project("written");
+    let (greys, frame) = (project.join("crates/haar_vectors/stdout"), project.join(FRAME));
+    let right = fs::read_to_string(&greys).unwrap();
+    assert_eq!(text(&run(&project).stdout), "answers: 6 files, 0 rewritten\n");
+    // A digit, a line too many, a last line that is not closed, a file that is not there.
+    let digit = right.replacen("greys   255", "greys   254", 1);
+    for wrong in [digit, right.clone() + "\n", right.trim_end().to_string()] {
+        assert_ne!(wrong, right);
+        fs::write(&greys, wrong).unwrap();
+        assert_eq!(text(&run(&project).stdout), "crates/haar_vectors/stdout\nanswers: 6 files, 1 rewritten\n");
+        assert_eq!(fs::read_to_string(&greys).unwrap(), right);
+    }
+    fs::remove_file(frame.with_extension("answer")).unwrap();
+    let output = run(&project);
+    assert_eq!(text(&output.stdout), format!("{FRAME}.answer\nanswers: 6 files, 1 rewritten\n"));
+    assert!(output.status.success() && frame.with_extension("answer").exists());
+}
+
+/// Checks that the program writes nothing and says this, and no more.
+fn refused(project: &Path, amiss: &str) {
+    let output = run(project);
+    assert_eq!(
+        (output.status.code(), text(&output.stdout), text(&output.stderr)),
+        (Some(1), String::new(), format!("{amiss}\n"))
+    );
+}
+
+#[test]
+fn what_is_amiss_is_told() {
+    let project = project("amiss");
+    let wrong = project.join("crates/edge_vectors/stdout");
+    fs::write(&wrong, "").unwrap();
+
+    let orphan = project.join("tests/frames/orphan.answer");
+    fs::write(&orphan, "refused 11\n").unwrap();
+    refused(&project, "tests/frames/orphan.answer: it has no frame");
+    fs::remove_file(&orphan).unwrap();
+
+    fs::create_dir(project.join("crates/other")).unwrap();
+    fs::write(project.join("crates/other/stdout"), "").unwrap();
+    refused(&project, "crates/other/stdout: its program is not known here");
+    fs::remove_file(project.join("crates/other/stdout")).unwrap();
+
+    for (name, case) in [
+        ("edge_vectors", "0 0 0 0 0 0"),
+        ("edge_vectors", "0 0 0 0 0 0 x"),
+        ("tile_vectors", "s +1"),
+        ("tile_vectors", "z"),
+    ] {
+        let cases = project.join(format!("crates/{name}/stdin"));
+        let before = fs::read_to_string(&cases).unwrap();
+        fs::write(&cases, format!("# a comment\n\n{case}\n")).unwrap();
+        let what = if name == "edge_vectors" { "it is not seven numbers" } else { "it is no case" };
+        refused(&project, &format!("crates/{name}/stdin, line 3: {what}"));
+        fs::write(&cases, before).unwrap();
+    }
+
+    assert_eq!(fs::read_to_string(&wrong).unwrap(), "");
+    assert_eq!(text(&run(&project).stdout), "crates/edge_vectors/stdout\nanswers: 6 files, 1 rewritten\n");
+}
+
+#[test]
+fn the_first_line_that_differs_is_named() {
+    let project = project("named");
+    let answer = Answer { name: "crates/integer_vectors/stdout".to_string(), text: "1\n2\n3\n".to_string() };
+    let difference = |stored: &str| {
+        fs::write(project.join(&answer.name), stored).unwrap();
+        answer.difference(&project).unwrap().map(|what| what.replace("crates/integer_vectors/stdout, ", ""))
+    };
+    assert_eq!(difference("1\n2\n3\n"), None);
+    assert_eq!(difference("1\n4\n5\n").unwrap(), r#"line 2: "4\n" is stored, and "2\n" is right"#);
+    assert_eq!(difference("1\n2\n").unwrap(), r#"line 3: no line is stored, and "3\n" is right"#);
+    assert_eq!(difference("1\n2\n3").unwrap(), r#"line 3: "3" is stored, and "3\n" is right"#);
+    assert_eq!(difference("1\n2\n3\n\n").unwrap(), r#"line 4: "\n" is stored, and no line is right"#);
+    fs::remove_file(project.join(&answer.name)).unwrap();
+    let missing = answer.difference(&project).unwrap();
+    assert_eq!(missing.unwrap(), "crates/integer_vectors/stdout: it is not there");
+}
