@@ -1,13 +1,16 @@
--- The grey of a figure; and of a fraction in its place, for 4^L times an exact area need not be whole.
+-- The grey of a figure; and of a fraction in its place, for 4^L times an exact area need not be whole. It is that of the magnitude, so that a letter may
+-- be traced either way round (02, P4).
 --
 -- Definitions
 --   full side                    the figure of a cell that is all ink: as large at every level
---   grey side num den            the grey of num / den in a figure's place, on a tile of side × side pixels
+--   inkGrey side num den         01's rule: the grey of num / den in a figure's place, on a tile of side × side pixels; below zero it is white
+--   grey side num den            the grey of num / den: by that rule, of its magnitude
 --   greyOf side f                the grey of the figure f
 --   OneApart a b                 two greys that are at most one apart
 use Prim.Native.Nat.{ℕ, _+_, _*_, _≤_}
 use lib.IntN.{ℤ, pos, natAbs, _*ℤ_}
 use Rattle.integers.specs.Units.{unitsPerPixel, fullGrey}
+use Rattle.integers.specs.Magnitude.{abs}
 use Rattle.integers.specs.Clamp.{clamp}
 use Rattle.integers.specs.Rounding.{roundHalfUp}
 
@@ -17,8 +20,13 @@ full side = unitsPerPixel * (side * side)
 
 -- "The grey is 255 × figure / (131,072 × side × side), the same at every level, rounded to the nearest whole number, halves up, then held
 -- between 0 and 255. A figure below zero is 0, white." What is held so is not negative, and `natAbs` only makes a natural number of it.
+unfoldable pub inkGrey : ℕ → ℤ → ℕ → ℕ
+inkGrey side num den = natAbs (clamp (roundHalfUp (pos fullGrey *ℤ num) (full side * den)) (pos 0) (pos fullGrey))
+
+-- "From now on a grey is that of the figure's magnitude", and the exact area's is "taken the same way". The magnitude is of the fraction, before anything
+-- is rounded: half a grey either way is 1.
 unfoldable pub grey : ℕ → ℤ → ℕ → ℕ
-grey side num den = natAbs (clamp (roundHalfUp (pos fullGrey *ℤ num) (full side * den)) (pos 0) (pos fullGrey))
+grey side num den = inkGrey side (abs num) den
 
 abbrev pub greyOf : ℕ → ℤ → ℕ
 greyOf side f = grey side f 1

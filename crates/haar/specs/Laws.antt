@@ -22,5 +22,6 @@ pub mod Entries
 -- totals of a level
 pub mod CellSums
 pub mod Totals
--- greys
+-- greys: 01's rule, and that of a magnitude
+pub mod InkGreys
 pub mod Greys

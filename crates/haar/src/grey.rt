@@ -1,4 +1,4 @@
-// The grey of a figure: 255 for the full figure, to the nearest whole number, halves up, and never below 0 or above 255.
+// The grey of a figure, by its magnitude: 255 for the full figure, to the nearest whole number, halves up, and never above 255.
 ghost use mathlib.Core.Path.{_≡_};
 ghost use Prim.Native.Nat.{_^_, _≤_};
 ghost use Rattle.integers.specs.Units.{greatestDepth};
@@ -10,16 +10,13 @@ const PIXEL_BITS: usize = 17;
 // Full ink. White is 0.
 const FULL_GREY: u8 = 255;
 
-// The grey of a figure on a tile of side 2^depth. The figure is compared with 0 and with the full figure first, which gives the same as to round and
-// then to hold, and what is multiplied by 255 is below 2^29, whatever the figure.
+// The grey of a figure on a tile of side 2^depth, by its magnitude, since a letter may be traced either way round. That is compared with the full figure
+// first, which gives the same as to round and then to hold, and what is multiplied by 255 is below 2^29, whatever the figure.
 pub fn grey_of(figure: i64, depth: usize) -> u8
     requires { ⌜ depth ≤ greatestDepth ⌝ }
     ensures { λ r. ⌜ r ≡ greyOf (2 ^ depth) figure ⌝ }
 {
-    if figure <= 0 {
-        return 0;
-    }
-    let ink = figure as usize;
+    let ink = integers::magnitude(figure) as usize;
     let bits = PIXEL_BITS + 2 * depth;
     let full = 1usize << bits;
     if full <= ink {

@@ -3,14 +3,16 @@
 -- Main results
 --   abs-view                        |z| is z or −z, whichever is not negative
 --   abs-nonneg, le-abs, neg-le-abs, abs-le     |z| ≤ b is z ≤ b and −z ≤ b
---   abs-neg, abs-mul, abs-triangle  of a negation, a product, a sum
+--   abs-pos, abs-neg, abs-mul       of a natural number, a negation, a product
+--   abs-triangle, abs-difference    of a sum; of a difference
 --   natAbs-mul, natAbs-triangle     the last two, of natural numbers
 use mathlib.Core.Path.{_≡_, refl, ap, subst}
 use mathlib.Core.List.{[], _∷_}
-use Prim.Native.Nat.{zero, suc, _+_, _*_, _≤_}
+use Prim.Native.Nat.{ℕ, zero, suc, _+_, _*_, _≤_}
 use lib.Dec.{leb→le}
-use lib.IntN.{ℤ, pos, negsuc, negℤ, natAbs, _+ℤ_, _*ℤ_}
+use lib.IntN.{ℤ, pos, negsuc, negℤ, natAbs, _+ℤ_, _-ℤ_, _*ℤ_}
 use lib.Signed.{_≤ℤ_, leZ-yes}
+use Rattle.integers.specs.Ring.{read, ring}
 use Rattle.integers.specs.Order.{nonneg}
 use Rattle.integers.specs.Linear.{le, eq, _&_, linear, lin≤}
 
@@ -29,6 +31,10 @@ abs-view (negsuc n) = nonpositive (leZ-yes tt) refl
 pub abs-nonneg : (z : ℤ) → pos 0 ≤ℤ abs z
 unfolding abs
 abs-nonneg z = nonneg (natAbs z)
+
+pub abs-pos : (n : ℕ) → abs (pos n) ≡ pos n
+unfolding abs
+abs-pos n = refl
 
 pub abs-neg : (z : ℤ) → abs (negℤ z) ≡ abs z
 unfolding abs
@@ -69,6 +75,12 @@ pub abs-triangle : (x y : ℤ) → abs (x +ℤ y) ≤ℤ (abs x +ℤ abs y)
 abs-triangle x y =
     abs-le (lin≤ (x ∷ y ∷ abs x ∷ abs y ∷ []) (le (le-abs x) & le (le-abs y)) (search linear depth 40) tt)
     (lin≤ (x ∷ y ∷ abs x ∷ abs y ∷ []) (le (neg-le-abs x) & le (neg-le-abs y)) (search linear depth 40) tt)
+
+-- magnitudes are no further apart than the numbers
+pub abs-difference : (x y : ℤ) → (abs x -ℤ abs y) ≤ℤ abs (x -ℤ y)
+abs-difference x y =
+    let e : abs (x -ℤ y +ℤ y) ≡ abs x = ap abs (ring (x ∷ y ∷ []) (search read depth 40) tt) in
+    lin≤ (abs x ∷ abs y ∷ abs (x -ℤ y) ∷ abs (x -ℤ y +ℤ y) ∷ []) (le (abs-triangle (x -ℤ y) y) & eq e) (search linear depth 40) tt
 
 pub natAbs-triangle : (x y : ℤ) → natAbs (x +ℤ y) ≤ natAbs x + natAbs y
 unfolding abs

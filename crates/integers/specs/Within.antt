@@ -6,6 +6,7 @@
 --   within-sign                                                      of a number times 1 or −1
 --   within-of-abs, abs-of-within, scaled-abs-of-within               the same as |x| ≤ b, or k |x| ≤ b
 --   within-of-natAbs, natAbs-of-within                               the same as |x| ≤ b, of natural numbers
+--   within-abs                                                       magnitudes are no further apart than the numbers
 --   zero-of-within                                                   within 0 is 0
 --   bounds                                                           as facts for `lin≤`
 use mathlib.Core.Path.{_≡_, refl, sym, subst, subst₂}
@@ -14,10 +15,10 @@ use mathlib.Core.Logic.{_⊎_, inl, inr}
 use Prim.Native.Nat.{ℕ, _≤_}
 use lib.IntN.{ℤ, pos, negsuc, negℤ, natAbs, _+ℤ_, _-ℤ_, _*ℤ_}
 use lib.Signed.{_≤ℤ_}
-use Rattle.integers.specs.Ring.{read, comb, _⊗_}
+use Rattle.integers.specs.Ring.{read, ring, comb, _⊗_}
 use Rattle.integers.specs.Order.{≤ℤ-mul, nonneg, pos-≤ℤ, ≤-of-pos}
 use Rattle.integers.specs.Linear.{end, more, Facts, le, _&_, linear, lin≤, lin≡}
-use Rattle.integers.specs.Magnitude.{abs, abs-mul, abs-le, le-abs, neg-le-abs}
+use Rattle.integers.specs.Magnitude.{abs, abs-mul, abs-le, le-abs, neg-le-abs, abs-difference}
 
 pub record Within (b x : ℤ) : Type 0 where
   pub low : negℤ b ≤ℤ x
@@ -95,6 +96,16 @@ natAbs-of-within w = ≤-of-pos (abs-of-within w)
 pub scaled-abs-of-within : {b : ℤ} (k : ℕ) (x : ℤ) → Within b (pos k *ℤ x) → (pos k *ℤ abs x) ≤ℤ b
 unfolding abs
 scaled-abs-of-within {b} k x w = subst (λ z. z ≤ℤ b) (abs-mul (pos k) x) (abs-of-within w)
+
+pub within-abs : {b : ℤ} (x y : ℤ) → Within b (x -ℤ y) → Within b (abs x -ℤ abs y)
+within-abs {b} x y w =
+    let back : negℤ (x -ℤ y) ≡ y -ℤ x = ring (x ∷ y ∷ []) (search read depth 40) tt in
+    let above = abs-of-within w in
+    let below = abs-of-within (within-is refl back (within-neg w)) in
+    record {
+      low = lin≤ (abs x ∷ abs y ∷ abs (y -ℤ x) ∷ b ∷ []) (le (abs-difference y x) & le below) (search linear depth 40) tt;
+      high = lin≤ (abs x ∷ abs y ∷ abs (x -ℤ y) ∷ b ∷ []) (le (abs-difference x y) & le above) (search linear depth 40) tt;
+    }
 
 pub zero-of-within : {x : ℤ} → Within (pos 0) x → x ≡ pos 0
 zero-of-within {x} w = lin≡ (x ∷ []) (bounds w) (search linear depth 40) (tt, tt)

@@ -91,14 +91,14 @@ letterA = record {
   slants = [];
 }
 
--- "B. A reversed: −131072, grey 0."
+-- "B. A reversed: −131072"; 02, P4: "Case B's grey becomes 255."
 abbrev pub letterB : Letter
 letterB = record {
   side = 1;
   points = pos 0 ∷ pos 256 ∷ pos 256 ∷ pos 256 ∷ pos 256 ∷ pos 0 ∷ pos 0 ∷ pos 0 ∷ [];
   table = negℤ (pos 131072) ∷ [];
   figures = [];
-  greys = record { level = 0; picture = 0 ∷ [] } ∷ [];
+  greys = record { level = 0; picture = 255 ∷ [] } ∷ [];
   slants = [];
 }
 

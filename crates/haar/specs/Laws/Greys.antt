@@ -1,101 +1,63 @@
--- Greys are bytes, rise with the fraction, and move by at most one where it moves by at most a grey. Sides and denominators are above 0.
+-- Greys, of magnitudes: bytes, the same either way round, which rise with the magnitude and move by at most one where the fraction moves by at most a
+-- grey. Sides and denominators are above 0.
 --
 -- Main results
---   full-pos                     a tile's full figure is above 0
---   grey-clamp, grey-byte        a grey is the rounded fraction, held; it is at most 255
---   grey-mono, greyOf-mono       a larger fraction, or a larger figure, has no smaller grey
+--   grey-byte                    a grey is at most 255
+--   grey-neg                     −num / den has the grey of num / den
+--   grey-mono                    a larger magnitude has no smaller grey
 --   greys-one-apart              fractions at most a 255th of the full figure apart have greys at most one apart
---   grey-whole                   n 255ths of the full figure have the grey n
---   grey-white, grey-full        a figure of 0 or less is white; one of the full figure or more has the full grey
-use mathlib.Core.Path.{_≡_, sym, _∙_, ap, subst⁻¹, subst₂}
+--   grey-whole, grey-half        n 255ths of the full figure have the grey n; half a 255th more, the next one; below zero too, by `grey-neg`
+--   grey-magnitude               a figure's grey is 01's, of its magnitude
+use mathlib.Core.Path.{_≡_, refl, sym, _∙_, ap, ap₂}
 use mathlib.Core.List.{[], _∷_}
 use Prim.Native.Nat.{ℕ, _+_, _*_, _<_, _≤_}
-use native.Mathlib.Omega.{arith}
-use native.Mathlib.Nat.{mul-pos}
-use lib.IntN.{ℤ, pos, natAbs, _+ℤ_, _-ℤ_, _*ℤ_}
-use lib.Signed.{_≤ℤ_, yes-nonNeg, pos-natAbs}
+use lib.IntN.{ℤ, pos, negℤ, natAbs, _-ℤ_, _*ℤ_}
+use lib.Signed.{_≤ℤ_}
 use Rattle.integers.specs.Units.{fullGrey}
 use Rattle.integers.specs.Ring.{read, ring}
-use Rattle.integers.specs.Order.{≤ℤ-scale, pos-≤ℤ, ≤-of-pos, nonneg}
-use Rattle.integers.specs.Linear.{le, eq, _&_, linear, lin≤}
-use Rattle.integers.specs.Within.{Within, bounds, within-self}
-use Rattle.integers.specs.Clamp.{clamp, clamp-low, clamp-high, clamp-inside, clamp-mono, clamp-moves}
-use Rattle.integers.specs.Rounding.{roundHalfUp}
-use Rattle.integers.specs.RoundHalfUp.{roundHalfUp-mono, roundHalfUp-mul, roundHalfUp-one-apart}
-use Rattle.haar.specs.Greys.{full, grey, greyOf, OneApart}
-
-pub full-pos : {side : ℕ} → 0 < side → 0 < full side
-full-pos {side} s = let k : 0 < side * side = mul-pos s s in omega arith
-
--- ---- a byte
--- a fraction's 255ths of the full figure, rounded; and held
-abbrev rounded : ℕ → ℤ → ℕ → ℤ
-rounded side num den = roundHalfUp (pos fullGrey *ℤ num) (full side * den)
-
-abbrev held : ℤ → ℤ
-held q = clamp q (pos 0) (pos fullGrey)
-
-pub grey-clamp : (side : ℕ) (num : ℤ) (den : ℕ)
-    → pos (grey side num den) ≡ clamp (roundHalfUp (pos fullGrey *ℤ num) (full side * den)) (pos 0) (pos fullGrey)
-unfolding grey
-grey-clamp side num den = pos-natAbs (held (rounded side num den)) (yes-nonNeg (clamp-low (rounded side num den) (pos 0) (pos fullGrey)))
+use Rattle.integers.specs.Magnitude.{abs, abs-pos, abs-neg, abs-mul}
+use Rattle.integers.specs.Within.{Within, within-is, within-abs}
+use Rattle.haar.specs.Greys.{full, inkGrey, grey, greyOf, OneApart}
+use Rattle.haar.specs.Laws.InkGreys.{ink-byte, ink-mono, ink-one-apart, ink-whole, ink-half}
 
 pub grey-byte : (side : ℕ) (num : ℤ) (den : ℕ) → grey side num den ≤ fullGrey
-grey-byte side num den =
-    ≤-of-pos (subst⁻¹ (λ z. z ≤ℤ pos fullGrey) (grey-clamp side num den) (clamp-high (nonneg fullGrey) (rounded side num den)))
+unfolding grey
+grey-byte side num den = ink-byte side (abs num) den
+
+pub grey-neg : (side : ℕ) (num : ℤ) (den : ℕ) → grey side (negℤ num) den ≡ grey side num den
+unfolding grey
+grey-neg side num den = ap (λ z. inkGrey side z den) (abs-neg num)
 
 -- ---- two fractions, a / d and b / e
 module _ {side : ℕ} (s : 0 < side) (a b : ℤ) {d e : ℕ} (g : 0 < d) (h : 0 < e) where
-  -- a / d ≤ b / e
-  pub grey-mono : (a *ℤ pos e) ≤ℤ (b *ℤ pos d) → grey side a d ≤ grey side b e
-  grey-mono k =
-      let i : rounded side a d ≤ℤ rounded side b e =
-      roundHalfUp-mono (pos fullGrey *ℤ a) (pos fullGrey *ℤ b) (mul-pos (full-pos s) g) (mul-pos (full-pos s) h)
-      (lin≤ (a ∷ b ∷ pos d ∷ pos e ∷ pos side ∷ []) (le (≤ℤ-scale (full side) k)) (search linear depth 40) tt) in
-      ≤-of-pos (subst₂ _≤ℤ_ (sym (grey-clamp side a d)) (sym (grey-clamp side b e)) (clamp-mono (pos 0) (pos fullGrey) i))
+  -- |a / d| ≤ |b / e|
+  pub grey-mono : (abs a *ℤ pos e) ≤ℤ (abs b *ℤ pos d) → grey side a d ≤ grey side b e
+  unfolding grey
+  grey-mono k = ink-mono s (abs a) (abs b) g h k
 
-  -- 255 × (a / d − b / e) ≤ full
-  one-up : (pos fullGrey *ℤ (a *ℤ pos e -ℤ b *ℤ pos d)) ≤ℤ pos (full side * (d * e)) → grey side a d ≤ grey side b e + 1
-  one-up k =
-      let i : rounded side a d ≤ℤ (rounded side b e +ℤ pos 1) =
-      roundHalfUp-one-apart (pos fullGrey *ℤ a) (pos fullGrey *ℤ b) (mul-pos (full-pos s) g) (mul-pos (full-pos s) h)
-      (lin≤ (a ∷ b ∷ pos d ∷ pos e ∷ pos side ∷ []) (le (≤ℤ-scale (full side) k)) (search linear depth 40) tt) in
-      let x = held (rounded side a d) in
-      let y = held (rounded side b e) in
-      let y′ = held (rounded side b e +ℤ pos 1) in
-      let j : x ≤ℤ y′ = clamp-mono (pos 0) (pos fullGrey) i in
-      let m : Within (pos 1) (y′ -ℤ y) = clamp-moves (pos 0) (pos fullGrey) (rounded side b e) (pos 1) (within-self (nonneg 1)) in
-      ≤-of-pos (lin≤ (x ∷ y ∷ y′ ∷ pos (grey side a d) ∷ pos (grey side b e) ∷ [])
-      (le j & bounds m & eq (grey-clamp side a d) & eq (grey-clamp side b e)) (search linear depth 40) tt)
+  scaled : (z : ℤ) (n : ℕ) → abs (pos fullGrey *ℤ (z *ℤ pos n)) ≡ pos fullGrey *ℤ (abs z *ℤ pos n)
+  scaled z n = abs-mul (pos fullGrey) (z *ℤ pos n) ∙ ap₂ _*ℤ_ (abs-pos fullGrey) (abs-mul z (pos n) ∙ ap (λ k. abs z *ℤ k) (abs-pos n))
 
-pub greyOf-mono : {side : ℕ} {f g : ℤ} → 0 < side → f ≤ℤ g → greyOf side f ≤ greyOf side g
-greyOf-mono {side} {f} {g} s k = grey-mono s f g (omega arith) (omega arith) (lin≤ (f ∷ g ∷ []) (le k) (search linear depth 40) tt)
-
--- 255 × |a / d − b / e| ≤ full
-pub greys-one-apart : {side : ℕ} → 0 < side → (a b : ℤ) {d e : ℕ} → 0 < d → 0 < e
-    → Within (pos (full side * (d * e))) (pos fullGrey *ℤ (a *ℤ pos e -ℤ b *ℤ pos d)) → OneApart (grey side a d) (grey side b e)
-greys-one-apart {side} s a b {d} {e} g h w = record {
-  up = one-up s a b g h (w .high);
-  down = one-up s b a h g (lin≤ (a ∷ b ∷ pos d ∷ pos e ∷ pos side ∷ []) (le (w .low)) (search linear depth 40) tt);
-}
+  -- 255 × |a / d − b / e| ≤ full; and | |a / d| − |b / e| | is no more
+  pub greys-one-apart : Within (pos (full side * (d * e))) (pos fullGrey *ℤ (a *ℤ pos e -ℤ b *ℤ pos d)) → OneApart (grey side a d) (grey side b e)
+  unfolding grey
+  greys-one-apart w =
+      let x = pos fullGrey *ℤ (a *ℤ pos e) in
+      let y = pos fullGrey *ℤ (b *ℤ pos d) in
+      let apart : pos fullGrey *ℤ (a *ℤ pos e -ℤ b *ℤ pos d) ≡ x -ℤ y = ring (a ∷ b ∷ pos d ∷ pos e ∷ []) (search read depth 40) tt in
+      let magnitudes : abs x -ℤ abs y ≡ pos fullGrey *ℤ (abs a *ℤ pos e -ℤ abs b *ℤ pos d) =
+      ap₂ _-ℤ_ (scaled a e) (scaled b d) ∙ ring (abs a ∷ abs b ∷ pos d ∷ pos e ∷ []) (search read depth 40) tt in
+      ink-one-apart s (abs a) (abs b) g h (within-is refl magnitudes (within-abs x y (within-is refl apart w)))
 
 -- ---- known greys
 pub grey-whole : {side : ℕ} (n : ℕ) → 0 < side → n ≤ fullGrey → grey side (pos (n * full side)) fullGrey ≡ n
-grey-whole {side} n s k = ap natAbs (grey-clamp side (pos (n * full side)) fullGrey ∙ ap held exact ∙ clamp-inside (nonneg n) (pos-≤ℤ k))
-  where
-    exact : rounded side (pos (n * full side)) fullGrey ≡ pos n
-    exact =
-        let e : pos fullGrey *ℤ pos (n * full side) ≡ pos n *ℤ pos (full side * fullGrey) = ring (pos n ∷ pos side ∷ []) (search read depth 40) tt in
-        ap (λ z. roundHalfUp z (full side * fullGrey)) e ∙ roundHalfUp-mul (pos n) (mul-pos (full-pos s) (omega arith))
+unfolding grey
+grey-whole {side} n s k = ap (λ z. inkGrey side z fullGrey) (abs-pos (n * full side)) ∙ ink-whole n s k
 
-pub grey-white : {side : ℕ} {f : ℤ} → 0 < side → f ≤ℤ pos 0 → greyOf side f ≡ 0
-grey-white {side} {f} s k =
-    let i = grey-mono s f (pos (0 * full side)) {d = 1} {e = fullGrey} (omega arith) (omega arith)
-    (lin≤ (f ∷ pos side ∷ []) (le k) (search linear depth 40) tt) in
-    omega (arith, grey-whole 0 s (omega arith))
+pub grey-half : {side : ℕ} (n : ℕ) → 0 < side → n + 1 ≤ fullGrey → grey side (pos ((2 * n + 1) * full side)) (2 * fullGrey) ≡ n + 1
+unfolding grey
+grey-half {side} n s k = ap (λ z. inkGrey side z (2 * fullGrey)) (abs-pos ((2 * n + 1) * full side)) ∙ ink-half n s k
 
-pub grey-full : {side : ℕ} {f : ℤ} → 0 < side → pos (full side) ≤ℤ f → greyOf side f ≡ fullGrey
-grey-full {side} {f} s k =
-    let i = grey-mono s (pos (fullGrey * full side)) f {d = fullGrey} {e = 1} (omega arith) (omega arith)
-    (lin≤ (f ∷ pos side ∷ []) (le k) (search linear depth 40) tt) in
-    omega (arith, grey-whole fullGrey s (omega arith), grey-byte side f 1)
+pub grey-magnitude : (side : ℕ) (f : ℤ) (n : ℕ) → n ≡ natAbs f → greyOf side f ≡ inkGrey side (pos n) 1
+unfolding grey abs
+grey-magnitude side f n e = ap (λ k. inkGrey side (pos k) 1) (sym e)

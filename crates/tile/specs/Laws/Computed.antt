@@ -13,6 +13,7 @@ use Prim.Native.Nat.{ℕ}
 use lib.Count.{ones, trailingZeros}
 use lib.IntN.{ℤ}
 use Rattle.integers.specs.MinMax.{min, max}
+use Rattle.integers.specs.Magnitude.{abs}
 use Rattle.integers.specs.Clamp.{clamp}
 use Rattle.integers.specs.RangeSum.{Σ<}
 use Rattle.integers.specs.Rounding.{roundHalfUp, floor}
@@ -22,7 +23,7 @@ use Rattle.haar.specs.Table.{index}
 use Rattle.haar.specs.Figures.{signedDetails, figure}
 use Rattle.haar.specs.Pictures.{tabulate}
 use Rattle.haar.specs.Entries.{levelDetails, entries}
-use Rattle.haar.specs.Greys.{grey}
+use Rattle.haar.specs.Greys.{inkGrey, grey}
 use Rattle.haar.specs.Plane.{dimensions, pictureIn}
 use Rattle.accuracy.specs.Outline.{pointsOf, contoursOf, through, contourEdges, outlineEdges}
 use Rattle.accuracy.specs.Laws.ClosedTable.{closedTable, outlineTable-closed}
@@ -38,5 +39,5 @@ unfolding computedTable
 tableOf-computed side points counts = ap (entries dimensions (depthOf side)) (outlineTable-closed (depthOf side) (edgesOf points counts))
 
 unfoldable pub computedPicture : {A : Type 0} → (ℤ → A) → List ℤ → ℕ → List A
-unfolding min max clamp roundHalfUp floor grey ones alternate detailSign rowMajor cellAt parent childNumber index Σ< signedDetails figure tabulate
+unfolding min max abs clamp roundHalfUp floor inkGrey grey ones alternate detailSign rowMajor cellAt parent childNumber index Σ< signedDetails figure tabulate
 computedPicture g table level = pictureIn g table level
