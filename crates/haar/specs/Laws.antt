@@ -25,3 +25,5 @@ pub mod Totals
 -- greys: 01's rule, and that of a magnitude
 pub mod InkGreys
 pub mod Greys
+-- a table with every sign turned
+pub mod Opposite

@@ -10,6 +10,8 @@
 --   between-means, within-means                     from low to high; from −b to b
 --   one-of-means                                    n is an element of l
 --   no-means                                        false exactly where the proposition does not hold
+--   same-means                                      two tests of one proposition are the same
+--   within-neg-same                                 −z is from −b to b where z is
 use mathlib.Core.Path.{_≡_, refl, sym}
 use mathlib.Core.List.{List, [], _∷_}
 use mathlib.Core.Logic.{_↔_, _⊎_, inl, inr, ⊎-elim}
@@ -20,7 +22,8 @@ use lib.IntN.{ℤ, negℤ}
 use lib.Signed.{leZ, _≤ℤ_}
 use borrow.Author.Tests.{eqb-true, leb-true, ltb-true, eq-eqb, le-leb, lt-ltb}
 use Rattle.integers.specs.Order.{leZ-true}
-use Rattle.integers.specs.Within.{Within}
+use Rattle.integers.specs.Ring.{read, ring}
+use Rattle.integers.specs.Within.{Within, within-is, within-neg}
 use Rattle.integers.specs.ListSum.{All}
 
 abbrev pub every : {A : Type 0} → (A → Bool) → List A → Bool
@@ -85,3 +88,14 @@ one-of-means n (m ∷ l) = or-means (eqb n m) (oneOf n l) (eqb-means n m) (one-o
 pub no-means : (b : Bool) {P : Type 0} → ((b ≡ true) ↔ P) → (b ≡ false) ↔ (P → ⊥)
 no-means true p = (λ e. absurd (true≢false e), λ h. absurd (h (p .0 refl)))
 no-means false p = (λ _ h. true≢false (sym (p .1 h)), λ _. refl)
+
+pub same-means : (a b : Bool) {P : Type 0} → ((a ≡ true) ↔ P) → ((b ≡ true) ↔ P) → a ≡ b
+same-means true b p q = sym (q .1 (p .0 refl))
+same-means false true p q = p .1 (q .0 refl)
+same-means false false p q = refl
+
+pub within-neg-same : (b z : ℤ) → between (negℤ b) b (negℤ z) ≡ between (negℤ b) b z
+within-neg-same b z =
+    let m = within-means b (negℤ z) in
+    let back : negℤ (negℤ z) ≡ z = ring (z ∷ []) (search read depth 40) tt in
+    same-means (between (negℤ b) b (negℤ z)) (between (negℤ b) b z) (λ e. within-is refl back (within-neg (m .0 e)), λ w. m .1 (within-neg w)) (within-means b z)

@@ -26,3 +26,5 @@ pub mod AskedContour
 pub mod Kept
 -- a series of calls of any kind
 pub mod Runs
+-- contours with their points in the reverse order
+pub mod ReversedContours

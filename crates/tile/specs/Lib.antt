@@ -34,6 +34,8 @@ pub mod SeriesTheorem
 pub mod NotRefused
 -- ---- 01's letters
 pub mod Letters
+-- ---- 02's wrong-handed tracing: a letter and the same one traced the other way round have the same greys
+pub mod EitherWay
 -- ---- what inner functions answer
 pub mod Inner
 -- ---- and the search behind question 9 (02, P2)

@@ -2,12 +2,13 @@
 --
 -- Main results
 --   tabulate-length, tabulate-entry, tabulate-unique     the one list with m entries f 0, f 1, and so on
+--   tabulate-map                                         and what is made of each entry
 --   picture-length                                       a level's picture has as many entries as the level has cells
 --   picture-entry, picture-at                            an entry is made of its cell's figure; the same on the tile
 --   picture-of-cells, picture-of-entries                 a list of such entries is the picture; the same on the tile
 --   picture-same                                         tables that are the same below a depth have the same pictures, down to it
 use mathlib.Core.Path.{_≡_, refl, sym, _∙_, ap, fun-ext}
-use mathlib.Core.List.{List}
+use mathlib.Core.List.{List, _∷_, map}
 use Prim.Native.Nat.{ℕ, zero, suc, _+_, _*_, _^_, _<_, _≤_}
 use native.Mathlib.Omega.{arith}
 use native.Mathlib.Nat.{zero-mul, zero-add}
@@ -64,6 +65,11 @@ module _ {A : Type 0} where
   picture-same {n} s g level h =
       ap (tabulate (children n ^ level))
       (fun-ext λ i. ap g (figure-same s level h (cellAt n (2 ^ level) i) (below-cellAt n (2 ^ level) i (pow-pos level))))
+
+pub tabulate-map : {A B : Type 0} (g : A → B) (m : ℕ) (f : ℕ → A) → map g (tabulate m f) ≡ tabulate m (λ i. g (f i))
+unfolding tabulate
+tabulate-map g zero f = refl
+tabulate-map g (suc m) f = ap (λ l. g (f 0) ∷ l) (tabulate-map g m (λ i. f (suc i)))
 
 -- ---- on the tile
 rowMajor-at : (m cx cy : ℕ) → rowMajor dimensions m (at cx cy) ≡ cy * m + cx

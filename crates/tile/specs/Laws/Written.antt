@@ -8,6 +8,7 @@
 --   coordinatesOf-length         there are two coordinates for each point
 --   coordinates-back             the outline of contours that were read from an outline is that one
 --   contours-edges                its edge count
+--   coordinates-asked            a test of every coordinate is one of every contour
 --   written-accepted             when building accepts it
 use mathlib.Core.Path.{_≡_, refl, sym, _∙_, ap, ap₂, subst, subst⁻¹}
 use mathlib.Core.Logic.{_↔_}
@@ -87,16 +88,16 @@ counts-asked (c ∷ cs) =
     every-append (λ n. leb fewestPoints n && leb n mostPoints) (length c ∷ []) (countsOf cs)
     ∙ ap (λ b. question4 (length c ∷ []) .answer && b) (counts-asked cs)
 
-coordinates-asked : (side : ℕ) (cs : List Contour) → question6 side (coordinates cs) .answer ≡ every (λ c. question6 side (coordinatesOf c) .answer) cs
+pub coordinates-asked : (test : ℤ → Bool) (cs : List Contour) → every test (coordinates cs) ≡ every (λ c. every test (coordinatesOf c)) cs
 unfolding coordinates
-coordinates-asked side [] = refl
-coordinates-asked side (c ∷ cs) =
-    every-append (between (pos 0) (pos (stepsPerPixel * side))) (coordinatesOf c) (coordinates cs) ∙ ap (λ b. question6 side (coordinatesOf c) .answer && b) (coordinates-asked side cs)
+coordinates-asked test [] = refl
+coordinates-asked test (c ∷ cs) =
+    every-append test (coordinatesOf c) (coordinates cs) ∙ ap (λ b. every test (coordinatesOf c) && b) (coordinates-asked test cs)
 
 contours-asked : (side : ℕ) (cs : List Contour) → every (isContour side) cs ≡ (question4 (countsOf cs) .answer && question6 side (coordinates cs) .answer)
 contours-asked side cs =
     every-both (λ c. question4 (length c ∷ []) .answer) (λ c. question6 side (coordinatesOf c) .answer) cs
-    ∙ sym (ap₂ _&&_ (counts-asked cs) (coordinates-asked side cs))
+    ∙ sym (ap₂ _&&_ (counts-asked cs) (coordinates-asked (between (pos 0) (pos (stepsPerPixel * side))) cs))
 
 -- when building accepts it
 pub written-accepted : (side : ℕ) (cs : List Contour) (before : List ℤ) → (buildRefusal side (coordinates cs) (countsOf cs) before ≡ 0)
