@@ -6,7 +6,8 @@
 --   grey-neg                     −num / den has the grey of num / den
 --   grey-mono                    a larger magnitude has no smaller grey
 --   greys-one-apart              fractions at most a 255th of the full figure apart have greys at most one apart
---   grey-whole, grey-half        n 255ths of the full figure have the grey n; half a 255th more, the next one; below zero too, by `grey-neg`
+--   grey-whole                   n 255ths of the full figure have the grey n
+--   grey-half, grey-half-below   half a 255th more, the next one; below zero too: the magnitude is rounded, and not the fraction
 --   grey-magnitude               a figure's grey is 01's, of its magnitude
 use mathlib.Core.Path.{_≡_, refl, sym, _∙_, ap, ap₂}
 use mathlib.Core.List.{[], _∷_}
@@ -57,6 +58,9 @@ grey-whole {side} n s k = ap (λ z. inkGrey side z fullGrey) (abs-pos (n * full 
 pub grey-half : {side : ℕ} (n : ℕ) → 0 < side → n + 1 ≤ fullGrey → grey side (pos ((2 * n + 1) * full side)) (2 * fullGrey) ≡ n + 1
 unfolding grey
 grey-half {side} n s k = ap (λ z. inkGrey side z (2 * fullGrey)) (abs-pos ((2 * n + 1) * full side)) ∙ ink-half n s k
+
+pub grey-half-below : {side : ℕ} (n : ℕ) → 0 < side → n + 1 ≤ fullGrey → grey side (negℤ (pos ((2 * n + 1) * full side))) (2 * fullGrey) ≡ n + 1
+grey-half-below {side} n s k = grey-neg side (pos ((2 * n + 1) * full side)) (2 * fullGrey) ∙ grey-half n s k
 
 pub grey-magnitude : (side : ℕ) (f : ℤ) (n : ℕ) → n ≡ natAbs f → greyOf side f ≡ inkGrey side (pos n) 1
 unfolding grey abs
