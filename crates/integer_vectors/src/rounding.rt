@@ -1,5 +1,6 @@
-// Quotients, rounded: each answer of `div_round_half_away` on a line. What must be printed was worked out another way: in exact fractions, of the two
-// whole numbers around n / d the one at the smaller distance, and at equal distances the one of larger magnitude.
+// Quotients, rounded: each answer of `div_round_half_away` on a line. What must be printed is made by `answers` of rust/, where
+// these numbers stand a second time. It was first worked out another way: in exact fractions, of the two whole numbers around n / d the one at the
+// smaller distance, and at equal distances the one of larger magnitude.
 use integers::div_round_half_away;
 use vector_print::decimal;
 use vector_print::words;

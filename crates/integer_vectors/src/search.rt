@@ -1,5 +1,5 @@
-// Searches, by question 9's bounds: how many numbers were looked at, and whether all are within. What must be printed was worked out by hand from 02's
-// "one more than the least place out of range, or all of them where there is none".
+// Searches, by question 9's bounds: how many numbers were looked at, and whether all are within. What must be printed is made by `answers` of rust/, by
+// 02's "one more than the least place out of range, or all of them where there is none".
 use integers::search_within;
 use vector_print::named;
 use vector_print::words;

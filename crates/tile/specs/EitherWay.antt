@@ -119,9 +119,12 @@ module _ (side : ℕ) (points : List ℤ) (counts : List ℕ) (before : List ℤ
       let as-written : buildRefusal side (coordinates cs) (countsOf cs) before ≡ 0 = ap₂ (λ p n. buildRefusal side p n before) same-points same-counts ∙ done in
       let y = written-accepted side cs before .0 as-written in
       ap (λ n. buildRefusal side (reversed points counts) n other) (sym same-counts-back)
-      ∙ written-accepted side (map reverse cs) other .1
-      (y .0, question2-means side other .1 e, backwards-asked side cs ∙ y .2,
-      subst (λ n. n ≤ mostEdges) (sym (contours-edges cs) ∙ ap edgeCount (sym (backwards-counts cs)) ∙ contours-edges (map reverse cs)) (y .3))
+      ∙ written-accepted side (map reverse cs) other .1 (
+        y .0,
+        question2-means side other .1 e,
+        backwards-asked side cs ∙ y .2,
+        subst (λ n. n ≤ mostEdges) (sym (contours-edges cs) ∙ ap edgeCount (sym (backwards-counts cs)) ∙ contours-edges (map reverse cs)) (y .3),
+      )
 
   pub reversed-table : (other : List ℤ) → length other ≡ side * side
       → buildTable side (reversed points counts) counts other ≡ opposite (buildTable side points counts before)
