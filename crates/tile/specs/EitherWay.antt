@@ -17,9 +17,11 @@
 --   reversed-placed-accepted,
 --   reversed-placed-table,
 --   reversed-placed-greys        the same with a placement
---   reversed-twice               twice reversed, an outline is as it was: so what is accepted reversed was accepted before
+--   reversed-twice               twice reversed, an outline is as it was, where it has as many points as its counts say ..
+--   accepted-either-way          .. so that it is then accepted exactly where its reverse is
 --   a-reversed, g-reversed       01's letters B and H are so reversed
 use mathlib.Core.Path.{_≡_, refl, sym, _∙_, ap, ap₂, subst}
+use mathlib.Core.Logic.{_↔_}
 use mathlib.Core.Bool.{Bool, not, _&&_, _||_}
 use mathlib.Core.List.{List, [], _∷_, map, reverse}
 use Prim.Native.Nat.{ℕ, zero, suc, _*_, _≤_}
@@ -97,13 +99,10 @@ module _ (side : ℕ) (table : List ℤ) where
       turned zero = refl
       turned (suc n) = refl
 
--- ---- an outline that building accepts, and the same reversed, over any table that is long enough
-module _ (side : ℕ) (points : List ℤ) (counts : List ℕ) (before : List ℤ) (done : buildRefusal side points counts before ≡ 0) where
+-- ---- an outline and its contours: question 3 is all that is asked
+module _ (points : List ℤ) (counts : List ℕ) (long : length points ≡ 2 * edgeCount counts) where
   abbrev cs : List Contour
   cs = contoursOf counts points
-
-  long : length points ≡ 2 * edgeCount counts
-  long = accepted side points counts before done .points-length
 
   same-points : coordinates cs ≡ points
   same-points = coordinates-back counts points long .0
@@ -114,25 +113,39 @@ module _ (side : ℕ) (points : List ℤ) (counts : List ℕ) (before : List ℤ
   same-counts-back : countsOf (map reverse cs) ≡ counts
   same-counts-back = backwards-counts cs ∙ same-counts
 
+  pub reversed-twice : reversed (reversed points counts) counts ≡ points
+  reversed-twice =
+      ap (λ n. reversed (reversed points counts) n) (sym same-counts-back)
+      ∙ ap (λ ds. coordinates (map reverse ds)) (contours-back (map reverse cs))
+      ∙ ap coordinates (backwards-twice cs) ∙ same-points
+
+-- ---- an outline that building accepts, and the same reversed, over any table that is long enough
+module _ (side : ℕ) (points : List ℤ) (counts : List ℕ) (before : List ℤ) (done : buildRefusal side points counts before ≡ 0) where
+  abbrev ds : List Contour
+  ds = contoursOf counts points
+
+  long : length points ≡ 2 * edgeCount counts
+  long = accepted side points counts before done .points-length
+
   pub reversed-accepted : (other : List ℤ) → length other ≡ side * side → buildRefusal side (reversed points counts) counts other ≡ 0
   reversed-accepted other e =
-      let as-written : buildRefusal side (coordinates cs) (countsOf cs) before ≡ 0 = ap₂ (λ p n. buildRefusal side p n before) same-points same-counts ∙ done in
-      let y = written-accepted side cs before .0 as-written in
-      ap (λ n. buildRefusal side (reversed points counts) n other) (sym same-counts-back)
-      ∙ written-accepted side (map reverse cs) other .1 (
+      let as-written : buildRefusal side (coordinates ds) (countsOf ds) before ≡ 0 = ap₂ (λ p n. buildRefusal side p n before) (same-points points counts long) (same-counts points counts long) ∙ done in
+      let y = written-accepted side ds before .0 as-written in
+      ap (λ n. buildRefusal side (reversed points counts) n other) (sym (same-counts-back points counts long))
+      ∙ written-accepted side (map reverse ds) other .1 (
         y .0,
         question2-means side other .1 e,
-        backwards-asked side cs ∙ y .2,
-        subst (λ n. n ≤ mostEdges) (sym (contours-edges cs) ∙ ap edgeCount (sym (backwards-counts cs)) ∙ contours-edges (map reverse cs)) (y .3),
+        backwards-asked side ds ∙ y .2,
+        subst (λ n. n ≤ mostEdges) (sym (contours-edges ds) ∙ ap edgeCount (sym (backwards-counts ds)) ∙ contours-edges (map reverse ds)) (y .3),
       )
 
   pub reversed-table : (other : List ℤ) → length other ≡ side * side
       → buildTable side (reversed points counts) counts other ≡ opposite (buildTable side points counts before)
   reversed-table other e =
       built-is side (reversed points counts) counts other (reversed-accepted other e)
-      ∙ ap (λ n. tableOf side (reversed points counts) n) (sym same-counts-back)
-      ∙ ap (λ ds. edgesTable side (outlineEdges ds)) (contours-back (map reverse cs))
-      ∙ backwards-table side cs
+      ∙ ap (λ n. tableOf side (reversed points counts) n) (sym (same-counts-back points counts long))
+      ∙ ap (λ es. edgesTable side (outlineEdges es)) (contours-back (map reverse ds))
+      ∙ backwards-table side ds
       ∙ sym (ap opposite (built-is side points counts before done))
 
   pub reversed-greys : (other : List ℤ) → length other ≡ side * side → (level : ℕ) (picture : List ℕ)
@@ -140,11 +153,13 @@ module _ (side : ℕ) (points : List ℤ) (counts : List ℕ) (before : List ℤ
   reversed-greys other e level picture =
       ap (λ t. greysPicture side level t picture) (reversed-table other e) ∙ opposite-greys side (buildTable side points counts before) level picture
 
-  pub reversed-twice : reversed (reversed points counts) counts ≡ points
-  reversed-twice =
-      ap (λ n. reversed (reversed points counts) n) (sym same-counts-back)
-      ∙ ap (λ ds. coordinates (map reverse ds)) (contours-back (map reverse cs))
-      ∙ ap coordinates (backwards-twice cs) ∙ same-points
+-- ---- so it is accepted both ways, or neither
+pub accepted-either-way : (side : ℕ) (points : List ℤ) (counts : List ℕ) (before : List ℤ) → length points ≡ 2 * edgeCount counts
+    → (buildRefusal side (reversed points counts) counts before ≡ 0) ↔ (buildRefusal side points counts before ≡ 0)
+accepted-either-way side points counts before enough =
+    let turned : (l : List ℤ) → buildRefusal side l counts before ≡ 0 → buildRefusal side (reversed l counts) counts before ≡ 0 =
+    λ l done. reversed-accepted side l counts before done before (accepted side l counts before done .table-length) in
+    (λ done. subst (λ l. buildRefusal side l counts before ≡ 0) (reversed-twice points counts enough) (turned (reversed points counts) done), turned points)
 
 -- ---- with a placement: the points are reversed as they are handed over
 module _ (side : ℕ) (points : List ℤ) (counts : List ℕ) (placement : Placement) (before : List ℤ) (done : placedRefusal side points counts placement before ≡ 0) where
