@@ -118,6 +118,11 @@ impl Edge {
         self.x0 * self.y1 - self.x1 * self.y0
     }
 
+    /// The edge from its second point to its first.
+    pub(crate) fn turned(self) -> Edge {
+        Edge { x0: self.x1, y0: self.y1, x1: self.x0, y1: self.y0 }
+    }
+
     /// The edge with x and y exchanged.
     pub fn exchanged(self) -> Edge {
         Edge { x0: self.y0, y0: self.x0, x1: self.y1, y1: self.x1 }
@@ -246,18 +251,17 @@ pub(crate) fn edges(rules: &dyn Rules, points: &[i64], counts: &[u32]) -> Vec<Ed
     let mut edges = Vec::new();
     let mut rest = points;
     for &count in counts {
-        let (contour, after) = rest.split_at(2 * count as usize);
+        let (points, after) = rest.split_at(2 * count as usize);
         rest = after;
+        let mut contour = Vec::new();
         for i in 0..count as usize {
             if let Some(next) = rules.joined_to(i, count as usize) {
-                edges.push(Edge {
-                    x0: contour[2 * i],
-                    y0: contour[2 * i + 1],
-                    x1: contour[2 * next],
-                    y1: contour[2 * next + 1],
-                });
+                let (x0, y0) = (points[2 * i], points[2 * i + 1]);
+                let (x1, y1) = (points[2 * next], points[2 * next + 1]);
+                contour.push(Edge { x0, y0, x1, y1 });
             }
         }
+        edges.append(&mut rules.traced(contour));
     }
     edges
 }

@@ -2,7 +2,8 @@
 
 use crate::big::Big;
 use crate::edge::Fraction;
-use crate::{FULL_GREY, PIXEL};
+use crate::rules::{full, held};
+use crate::FULL_GREY;
 use std::cmp::Ordering;
 use std::iter::Sum;
 
@@ -129,23 +130,31 @@ impl Exact {
 
     /// The exact |figure − 4^level × area| of a cell with this area.
     pub fn miss(&self, figure: i64, level: u32) -> Miss {
-        let difference = Exact::from_whole(i128::from(figure)).minus(&self.times(power(level)));
-        let value = match difference.cmp_whole(0) {
-            Ordering::Less => difference.times(-1),
-            _ => difference,
-        };
-        Miss { value }
+        let figure = Exact::from_whole(i128::from(figure));
+        Miss { value: figure.minus(&self.times(power(level))).magnitude() }
     }
 
-    /// The grey of a cell with this area, worked exactly:
-    /// 255 × 4^level × area / (131,072 × side × side) to the nearest whole
-    /// number, halves up, held between 0 and 255.
+    /// The grey of a cell with this area, worked exactly. 02's P4 has a drawn
+    /// grey "at most one from the grey of the exact area, taken the same way":
+    /// 255 × 4^level × the area's magnitude / (131,072 × side × side) to the
+    /// nearest whole number, halves up, held between 0 and 255.
     pub fn grey(&self, side: u32, level: u32) -> u8 {
-        let full = i128::from(PIXEL) * i128::from(side) * i128::from(side);
+        held(self.magnitude().nearest_grey(side, level))
+    }
+
+    /// As `grey`, of the area with its sign, and not yet held.
+    pub(crate) fn nearest_grey(&self, side: u32, level: u32) -> i128 {
         // floor(x / full + 1/2) = floor(floor(2x + full) / (2 full)).
         let twice = self.times(2 * i128::from(FULL_GREY) * power(level));
-        let nearest = (twice.floor() + full).div_euclid(2 * full);
-        nearest.clamp(0, FULL_GREY.into()) as u8
+        (twice.floor() + full(side)).div_euclid(2 * full(side))
+    }
+
+    /// How far it is from 0.
+    fn magnitude(&self) -> Exact {
+        match self.cmp_whole(0) {
+            Ordering::Less => self.times(-1),
+            _ => self.clone(),
+        }
     }
 
     /// The floor, and whether it is the number itself.
@@ -279,7 +288,7 @@ fn divided(num: i128, den: i128) -> (i128, i128) {
 #[cfg(test)]
 mod tests {
     use super::*;
-    use crate::randoms;
+    use crate::{randoms, PIXEL};
 
     fn of(terms: &[(i128, i128)]) -> Exact {
         let mut sum = Exact::default();
@@ -415,8 +424,13 @@ mod tests {
     #[test]
     fn greys_of_exact_areas() {
         let pixel = i128::from(PIXEL);
-        let grey = |terms: &[(i128, i128)]| of(terms).grey(1, 0);
-        assert_eq!([grey(&[(0, 1)]), grey(&[(pixel, 1)]), grey(&[(2 * pixel, 1)]), grey(&[(-9, 1)])], [0, 255, 255, 0]);
+        // A cell's grey is that of the area turned round.
+        let grey = |terms: &[(i128, i128)]| {
+            let area = of(terms);
+            assert_eq!(area.grey(1, 0), area.times(-1).grey(1, 0));
+            area.grey(1, 0)
+        };
+        assert_eq!([grey(&[(0, 1)]), grey(&[(pixel, 1)]), grey(&[(2 * pixel, 1)]), grey(&[(9, 1)])], [0, 255, 255, 0]);
         // 1/510 of a pixel is half a grey, and halves go up.
         assert_eq!(grey(&[(pixel, 510)]), 1);
         assert_eq!(grey(&[(pixel, 510), (-1, 1 << 40)]), 0);
@@ -425,7 +439,18 @@ mod tests {
         assert_eq!(grey(&[(509 * pixel, 510)]), 255);
         assert_eq!(grey(&[(509 * pixel, 510), (-1, 1 << 40)]), 254);
         // The same share of any cell is the same grey.
-        assert_eq!(of(&[(pixel, 2)]).grey(64, 6), 128);
+        assert_eq!(of(&[(-pixel, 2)]).grey(64, 6), 128);
         assert_eq!(of(&[(64 * 64 * pixel, 2)]).grey(64, 0), 128);
+    }
+
+    /// The magnitude is taken before rounding, so that half a grey goes up below
+    /// zero as well; with the sign it goes to 0.
+    #[test]
+    fn halves_below_zero_go_up() {
+        let pixel = i128::from(PIXEL);
+        for (num, grey, signed) in [(-1, 1, 0), (-3, 2, -1), (-509, 255, -254)] {
+            let area = of(&[(num * pixel, 510)]);
+            assert_eq!((area.grey(1, 0), area.nearest_grey(1, 0)), (grey, signed));
+        }
     }
 }

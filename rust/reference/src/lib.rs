@@ -1,10 +1,11 @@
 //! An independent reference for grey tiles from traced outlines.
 //!
-//! It states the specification ("01") and two paragraphs of the change requests
-//! ("02"), P1 on placements and P3 on contours put in and taken out, a second
-//! time, in plain Rust and by another method than the product, so that the two
-//! can be compared on any input. It is written to be read: nothing here is
-//! tuned beyond what running it on many thousands of outlines needs.
+//! It states the specification ("01") and three paragraphs of the change
+//! requests ("02"), P1 on placements, P3 on contours put in and taken out and P4
+//! on wrong-handed tracing, a second time, in plain Rust and by another method
+//! than the product, so that the two can be compared on any input. It is written
+//! to be read: nothing here is tuned beyond what running it on many thousands of
+//! outlines needs.
 //!
 //! # How areas are worked out
 //!
@@ -66,6 +67,13 @@
 //! alone, and added to the tile's entry by entry, or subtracted from it, in 128
 //! bits, so that there is an answer for any table at all. [`put`] and [`take`]
 //! write where nothing is refused, and only then.
+//!
+//! # How greys are taken
+//!
+//! 02 takes a grey from the figure's magnitude, so that a letter and the same
+//! letter traced the other way round look alike. Figures and tables keep their
+//! signs, and a hole takes away from its letter whichever way both are traced.
+//! The exact area's grey is taken the same way, without any rounding before.
 //!
 //! # The rules, and wrong rules
 //!

@@ -9,7 +9,11 @@ use crate::table::place;
 pub fn figures(rules: &dyn Rules, side: u32, level: u32, table: &[i64], places: usize) -> Result<Vec<i64>, u8> {
     let given = Given { side, table, level, places, ..Given::default() };
     given.ask(&rules.picture(), rules)?;
+    Ok(worked(rules, level, table).into_iter().map(|figure| rules.answered(figure)).collect())
+}
 
+/// The figures of a level of a table that may be drawn.
+fn worked(rules: &dyn Rules, level: u32, table: &[i64]) -> Vec<i64> {
     // The whole picture of each level is made from that of the level above.
     let mut picture = vec![table[0]];
     for j in 0..level {
@@ -24,14 +28,15 @@ pub fn figures(rules: &dyn Rules, side: u32, level: u32, table: &[i64], places: 
         }
         picture = finer;
     }
-    Ok(picture)
+    picture
 }
 
 /// The greys of a level, row by row from the top left, or the refusal's
 /// number.
 pub fn greys(rules: &dyn Rules, side: u32, level: u32, table: &[i64], places: usize) -> Result<Vec<u8>, u8> {
-    let figures = figures(rules, side, level, table, places)?;
-    Ok(figures.iter().map(|&f| rules.grey(f, side)).collect())
+    let given = Given { side, table, level, places, ..Given::default() };
+    given.ask(&rules.picture(), rules)?;
+    Ok(worked(rules, level, table).into_iter().map(|figure| rules.grey_of_cell(figure, table[0], side)).collect())
 }
 
 /// The figure of one cell, worked on its own from the root down through the
@@ -47,7 +52,7 @@ pub fn cell(rules: &dyn Rules, side: u32, level: u32, cx: u32, cy: u32, table: &
         let details = signed_details(table, j, cx >> up, cy >> up);
         figure = rules.quarter(figure, j, details);
     }
-    Ok(figure)
+    Ok(rules.answered(figure))
 }
 
 /// ± h ± v ± d of the parent of cell (x, y) of level j + 1: "h plus on the

@@ -1,13 +1,14 @@
-//! 01's rules and those of 02's P1 and P3, one small method each.
+//! 01's rules and those of 02's P1, P3 and P4, one small method each.
 
 use crate::correction::Correction;
 use crate::edge::{Edge, Fraction, Profile};
+use crate::exact::Exact;
 use crate::placement::{in_parts, Placement};
 use crate::questions::{Limits, Question};
 use crate::{FULL_GREY, PARTS, PIXEL};
 
-/// The rules of 01 and of 02's P1 and P3 that are easily got wrong. Each default
-/// body is the papers' rule; a wrong variant overrides one of them.
+/// The rules of 01 and of 02's P1, P3 and P4 that are easily got wrong. Each
+/// default body is the papers' rule; a wrong variant overrides one of them.
 pub trait Rules {
     /// The questions for building, in order: 1, 2, 4, 5, 3, 12, 6.
     fn building(&self) -> Vec<Question> {
@@ -51,6 +52,12 @@ pub trait Rules {
         Some((i + 1) % count)
     }
 
+    /// A contour's edges as building has them: those that were traced, the way
+    /// they were traced. Of wrong-handed tracing too, "no table moves."
+    fn traced(&self, contour: Vec<Edge>) -> Vec<Edge> {
+        contour
+    }
+
     /// "The distance from x to the cell's nearer upright side", 0 outside the
     /// cell, as a function of x. With x and y exchanged it serves v as well.
     fn distance(&self, left: i64, width: i64) -> Profile {
@@ -80,12 +87,29 @@ pub trait Rules {
         parent + 4i64.pow(j) * details
     }
 
-    /// "255 × figure / (131,072 × side × side) [...] rounded to the nearest
-    /// whole number, halves up, then held between 0 and 255."
+    /// A cell's figure as it is answered, in a picture or alone: as it was
+    /// worked out, below zero too. 02's P4: "no figure [...] moves."
+    fn answered(&self, figure: i64) -> i64 {
+        figure
+    }
+
+    /// 02's P4: "from now on a grey is that of the figure's magnitude", by 01's
+    /// rule, "255 × figure / (131,072 × side × side) [...] rounded to the nearest
+    /// whole number, halves up, then held between 0 and 255." The magnitude
+    /// comes first: half a grey below zero is 1, as half a grey above it is.
     fn grey(&self, figure: i64, side: u32) -> u8 {
-        let full = i128::from(PIXEL) * i128::from(side) * i128::from(side);
-        let nearest = (2 * i128::from(FULL_GREY) * i128::from(figure) + full).div_euclid(2 * full);
-        nearest.clamp(0, FULL_GREY.into()) as u8
+        held(nearest_grey(i128::from(figure).abs(), side))
+    }
+
+    /// The grey of a cell in a tile with this root: that of its figure, whatever
+    /// sign the root has.
+    fn grey_of_cell(&self, figure: i64, _root: i64, side: u32) -> u8 {
+        self.grey(figure, side)
+    }
+
+    /// "The grey of the exact area, taken the same way": see [`Exact::grey`].
+    fn exact_grey(&self, area: &Exact, side: u32, level: u32) -> u8 {
+        area.grey(side, level)
     }
 
     /// Whether the points are "points to be moved". Every placement but none
@@ -217,8 +241,24 @@ pub trait Rules {
     }
 }
 
-/// 01, and 02's P1 and P3, as they stand.
+/// 01, and 02's P1, P3 and P4, as they stand.
 #[derive(Clone, Copy, Debug, Default)]
 pub struct Spec;
 
 impl Rules for Spec {}
+
+/// 255 × figure / (131,072 × side × side) to the nearest whole number, halves
+/// up, not yet held between 0 and 255.
+pub(crate) fn nearest_grey(figure: i128, side: u32) -> i128 {
+    (2 * i128::from(FULL_GREY) * figure + full(side)).div_euclid(2 * full(side))
+}
+
+/// The figure of a cell that is full of ink: 131,072 × side × side.
+pub(crate) fn full(side: u32) -> i128 {
+    i128::from(PIXEL) * i128::from(side) * i128::from(side)
+}
+
+/// "Then held between 0 and 255."
+pub(crate) fn held(grey: i128) -> u8 {
+    grey.clamp(0, FULL_GREY.into()) as u8
+}

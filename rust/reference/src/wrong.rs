@@ -1,4 +1,4 @@
-//! Wrong variants: each spoils one rule of 01 or of 02's P1 or P3, so that a
+//! Wrong variants: each spoils one rule of 01 or of 02's P1, P3 or P4, so that a
 //! comparison with this reference can be shown to notice.
 
 use crate::correction::{written, Correction};
@@ -6,8 +6,8 @@ use crate::edge::{Bend, Edge, Fraction, Profile};
 use crate::exact::Exact;
 use crate::placement::Placement;
 use crate::questions::{Limits, Question};
-use crate::rules::{Rules, Spec};
-use crate::{FULL_GREY, PARTS, PIXEL};
+use crate::rules::{full, held, nearest_grey, Rules, Spec};
+use crate::{FULL_GREY, PARTS};
 
 /// All variants of 01's rules, each with a short name. Calls without a
 /// placement can tell each of them.
@@ -98,6 +98,22 @@ pub fn of_correction() -> Vec<(&'static str, Box<dyn Rules>)> {
         ("the entries before the first out of range changed", Box::new(ChangedUpToFirst)),
         ("the record counted where question 9 refuses", Box::new(CountedBeforeEntries)),
         ("the record counted whatever is refused", Box::new(CountedFirst)),
+    ]
+}
+
+/// All variants of 02's P4, each with a short name. Like 01's they can be told
+/// by calls without a placement; the last one, which is about the exact area's
+/// grey, by demand 3 alone.
+pub fn of_magnitude() -> Vec<(&'static str, Box<dyn Rules>)> {
+    vec![
+        ("a figure below zero white", Box::new(BelowZeroWhite)),
+        ("the magnitude of the rounded quotient", Box::new(MagnitudeOfRounded)),
+        ("a magnitude below zero one unit short", Box::new(MagnitudeOneShort)),
+        ("magnitudes drawn as figures", Box::new(MagnitudesDrawn)),
+        ("a magnitude handed on at each level", Box::new(MagnitudeHandedOn)),
+        ("figures turned by the root's sign", Box::new(TurnedByRoot)),
+        ("each contour turned clockwise", Box::new(ContoursTurned)),
+        ("an exact area below zero white", Box::new(ExactBelowZeroWhite)),
     ]
 }
 
@@ -215,9 +231,8 @@ pub struct GreyHalvesDown;
 
 impl Rules for GreyHalvesDown {
     fn grey(&self, figure: i64, side: u32) -> u8 {
-        let full = i128::from(PIXEL) * i128::from(side) * i128::from(side);
-        let nearest = -(full - 2 * i128::from(FULL_GREY) * i128::from(figure)).div_euclid(2 * full);
-        nearest.clamp(0, FULL_GREY.into()) as u8
+        let ink = i128::from(figure).abs();
+        held(-(full(side) - 2 * i128::from(FULL_GREY) * ink).div_euclid(2 * full(side)))
     }
 }
 
@@ -824,5 +839,87 @@ pub struct CountedFirst;
 impl Rules for CountedFirst {
     fn refused_record(&self, _number: u8, _before: u32, after: u32) -> u32 {
         after
+    }
+}
+
+/// Wrong: 01's rule alone, by which "a figure below zero is 0, white."
+pub struct BelowZeroWhite;
+
+impl Rules for BelowZeroWhite {
+    fn grey(&self, figure: i64, side: u32) -> u8 {
+        held(nearest_grey(figure.into(), side))
+    }
+}
+
+/// Wrong: the magnitude is taken once the quotient is rounded, so that a half
+/// below zero goes up towards zero first.
+pub struct MagnitudeOfRounded;
+
+impl Rules for MagnitudeOfRounded {
+    fn grey(&self, figure: i64, side: u32) -> u8 {
+        held(nearest_grey(figure.into(), side).abs())
+    }
+}
+
+/// Wrong: the bits of a figure below zero are turned and 1 is not added.
+pub struct MagnitudeOneShort;
+
+impl Rules for MagnitudeOneShort {
+    fn grey(&self, figure: i64, side: u32) -> u8 {
+        Spec.grey(if figure < 0 { !figure } else { figure }, side)
+    }
+}
+
+/// Wrong: figures are answered as magnitudes, in a picture and alone.
+pub struct MagnitudesDrawn;
+
+impl Rules for MagnitudesDrawn {
+    fn answered(&self, figure: i64) -> i64 {
+        figure.abs()
+    }
+}
+
+/// Wrong: a cell hands its figure's magnitude on to its quarters, and not the
+/// figure.
+pub struct MagnitudeHandedOn;
+
+impl Rules for MagnitudeHandedOn {
+    fn quarter(&self, parent: i64, j: u32, details: i64) -> i64 {
+        Spec.quarter(parent.abs(), j, details)
+    }
+}
+
+/// Wrong: the whole tile is taken to be traced one way, by the root's sign, and
+/// then a figure of the other sign is white.
+pub struct TurnedByRoot;
+
+impl Rules for TurnedByRoot {
+    fn grey_of_cell(&self, figure: i64, root: i64, side: u32) -> u8 {
+        BelowZeroWhite.grey(if root < 0 { -figure } else { figure }, side)
+    }
+}
+
+/// Wrong: a contour that was traced anticlockwise is turned before it is built,
+/// which fills the holes.
+pub struct ContoursTurned;
+
+impl Rules for ContoursTurned {
+    fn traced(&self, contour: Vec<Edge>) -> Vec<Edge> {
+        let area: i64 = contour.iter().map(|edge| edge.shoelace()).sum();
+        if area < 0 {
+            contour.into_iter().map(Edge::turned).collect()
+        } else {
+            contour
+        }
+    }
+}
+
+/// Wrong: the exact area's grey is 01's still, though the drawn grey is that of
+/// the magnitude.
+pub struct ExactBelowZeroWhite;
+
+impl Rules for ExactBelowZeroWhite {
+    fn exact_grey(&self, area: &Exact, side: u32, level: u32) -> u8 {
+        held(area.nearest_grey(side, level))
     }
 }

@@ -337,7 +337,7 @@ fn refused_records() {
 
 #[test]
 fn every_name_is_given_once() {
-    let lists = [wrong::all(), wrong::of_placement(), wrong::of_correction()];
+    let lists = [wrong::all(), wrong::of_placement(), wrong::of_correction(), wrong::of_magnitude()];
     let mut names: Vec<&str> = lists.iter().flatten().map(|(name, _)| *name).collect();
     let length = names.len();
     names.sort();
@@ -387,10 +387,10 @@ fn random_calls_tell_every_variant() {
     }
 }
 
-/// The variants of 01 and of P1 that reach corrections do not panic there.
+/// The variants of 01, of P1 and of P4 that reach corrections do not panic there.
 #[test]
 fn other_variants_are_answered() {
-    for (name, rules) in wrong::all().into_iter().chain(wrong::of_placement()) {
+    for (name, rules) in wrong::all().into_iter().chain(wrong::of_placement()).chain(wrong::of_magnitude()) {
         let mut random = Random(24);
         for _ in 0..300 {
             let call = random_call(&mut random);

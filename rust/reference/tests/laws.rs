@@ -3,7 +3,7 @@
 
 mod common;
 
-use common::{reverse, Outline, Random};
+use common::{Outline, Random};
 use reference::{build, cell, exact_areas, exact_details, figures, greys, signed_area, Exact, Spec};
 
 fn built(outline: &Outline) -> Vec<i64> {
@@ -130,14 +130,7 @@ fn reversed_outlines_have_opposite_tables() {
     let mut random = Random(7);
     for _ in 0..100 {
         let outline = random.outline();
-        let mut other = outline.clone();
-        let mut rest = &mut other.points[..];
-        for &count in &outline.counts {
-            let (contour, after) = rest.split_at_mut(2 * count as usize);
-            reverse(contour);
-            rest = after;
-        }
-        let opposite: Vec<i64> = built(&other).iter().map(|entry| -entry).collect();
+        let opposite: Vec<i64> = built(&outline.reversed()).iter().map(|entry| -entry).collect();
         assert_eq!(built(&outline), opposite, "{outline:?}");
     }
 }

@@ -1,4 +1,5 @@
-//! The letters and the further cases that 01 gives, number by number.
+//! The letters and the further cases that 01 gives, number by number, and the
+//! one grey that 02's P4 changes.
 
 use reference::{build, cell, exact_areas, figures, frame, greys, tile_program, Frame, Spec};
 
@@ -34,10 +35,11 @@ fn a_full_pixel() {
     assert_eq!(drawn(1, 0, &[131_072]), (vec![131_072], vec![255]));
 }
 
+/// 02's P4: "case B's grey becomes 255", and "no figure and no table moves."
 #[test]
 fn b_reversed() {
     assert_eq!(table(1, &reversed(&A)), [-131_072]);
-    assert_eq!(drawn(1, 0, &[-131_072]), (vec![-131_072], vec![0]));
+    assert_eq!(drawn(1, 0, &[-131_072]), (vec![-131_072], vec![255]));
 }
 
 #[test]

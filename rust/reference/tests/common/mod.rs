@@ -26,6 +26,18 @@ impl Outline {
     pub fn noughts(&self) -> Vec<i64> {
         vec![0; (self.side * self.side) as usize]
     }
+
+    /// The outline with each contour run the other way.
+    pub fn reversed(&self) -> Outline {
+        let mut other = self.clone();
+        let mut rest = &mut other.points[..];
+        for &count in &self.counts {
+            let (contour, after) = rest.split_at_mut(2 * count as usize);
+            reverse(contour);
+            rest = after;
+        }
+        other
+    }
 }
 
 /// A 64-bit linear congruence, of which the upper half is used.
