@@ -2,6 +2,7 @@
 //! and equal to it where every edge is level, upright or at 45 degrees; a grey within one of the exact area's; figures that add up.
 use crate::calls::Difference;
 use crate::outlines::Outline;
+use reference::{Rules, Spec};
 
 /// The greatest miss of a figure that was met, as a ratio of its bound.
 #[derive(Clone, Debug)]
@@ -19,11 +20,25 @@ pub struct Looked {
     pub cells: u64,
     /// greys that are not the exact area's, but one from it
     pub greys_one_apart: u64,
+    /// cells that are not white, of a figure above zero and of one below it
+    pub inked: [u64; 2],
     pub worst: Option<Worst>,
 }
 
 /// Are these the figures and greys of a level of the outline? `area` is its signed area.
 pub fn near(outline: &Outline, level: u32, area: i64, figures: &[i64], greys: &[u8]) -> Result<Looked, Difference> {
+    near_by(&Spec, outline, level, area, figures, greys)
+}
+
+/// As `near`, with the exact area's grey by these rules.
+pub fn near_by(
+    rules: &dyn Rules,
+    outline: &Outline,
+    level: u32,
+    area: i64,
+    figures: &[i64],
+    greys: &[u8],
+) -> Result<Looked, Difference> {
     let across = 1 << level;
     let octilinear = outline.is_octilinear();
     let exact = reference::exact_areas(outline.side, &outline.points, &outline.counts, level);
@@ -41,10 +56,13 @@ pub fn near(outline: &Outline, level: u32, area: i64, figures: &[i64], greys: &[
         if octilinear && !miss.is_zero() {
             return wrong("the figure is not the exact area, though every edge is level, upright or at 45 degrees");
         }
-        match area.grey(outline.side, level).abs_diff(greys[i]) {
+        match rules.exact_grey(area, outline.side, level).abs_diff(greys[i]) {
             0 => (),
             1 => looked.greys_one_apart += 1,
             _ => return wrong("the grey is more than one from the exact area's"),
+        }
+        if greys[i] != 0 {
+            looked.inked[(figures[i] < 0) as usize] += 1;
         }
         let ratio = miss.ratio(level, outline.edges());
         if looked.worst.as_ref().is_none_or(|worst| ratio > worst.ratio) {

@@ -52,6 +52,11 @@ pub struct Seen {
     /// cells whose figure and grey were held to exact areas
     pub cells: u64,
     pub greys_one_apart: u64,
+    /// those of the cells that are not white though their figure is below zero
+    pub inked_below_zero: u64,
+    /// outlines, not placed ones, with such a cell in their deepest level, and of these the ones with ink of both signs there
+    pub wrong_handed: u64,
+    pub mixed_handed: u64,
     pub calls: u64,
     /// calls by the number that was answered
     pub answered: [u64; ANSWERS],
@@ -73,6 +78,9 @@ impl Tally for Seen {
         self.placed.iter_mut().zip(other.placed).for_each(|(mine, more)| *mine += more);
         self.cells += other.cells;
         self.greys_one_apart += other.greys_one_apart;
+        self.inked_below_zero += other.inked_below_zero;
+        self.wrong_handed += other.wrong_handed;
+        self.mixed_handed += other.mixed_handed;
         self.calls += other.calls;
         self.answered.iter_mut().zip(other.answered).for_each(|(mine, more)| *mine += more);
         self.consider(other.worst);
@@ -106,12 +114,15 @@ impl std::fmt::Display for Seen {
     fn fmt(&self, to: &mut std::fmt::Formatter) -> std::fmt::Result {
         write!(
             to,
-            "{} outlines ({} octilinear) with {} edges, {} placed outlines, {} cells, {} greys one apart; {} calls, {} refused; worst miss ",
+            "{} outlines ({} octilinear, {} with ink below zero, {} of these with ink above it too) with {} edges, {} placed outlines, {} cells ({} with ink below zero), {} greys one apart; {} calls, {} refused; worst miss ",
             grouped(self.outlines),
             grouped(self.octilinear),
+            grouped(self.wrong_handed),
+            grouped(self.mixed_handed),
             grouped(self.edges),
             grouped(self.placed.iter().sum()),
             grouped(self.cells),
+            grouped(self.inked_below_zero),
             grouped(self.greys_one_apart),
             grouped(self.calls),
             grouped(self.calls - self.answered[0]),
@@ -168,7 +179,11 @@ pub fn from_outline_to_pictures(
     seen.largest[outline.depth() as usize] += (edges == outlines::MOST_EDGES) as u64;
     for level in 0..=outline.depth() {
         let (figures, greys) = pictures(rules, random, side, level, &table, seen)?;
-        hold_to_demand3(outline, level, area, &figures, &greys, seen)?;
+        let [above, below] = hold_to_demand3(rules, outline, level, area, &figures, &greys, seen)?;
+        if level == outline.depth() {
+            seen.wrong_handed += (below > 0) as u64;
+            seen.mixed_handed += (above > 0 && below > 0) as u64;
+        }
         cells_alone(rules, random, side, level, &table, &figures, seen)?;
     }
     Ok(())
@@ -193,25 +208,27 @@ fn from_placed_to_pictures(
     let area = reference::signed_area(&placed.points, counts);
     for level in 0..=placed.depth() {
         let (figures, greys) = pictures(rules, random, side, level, &table, seen)?;
-        hold_to_demand3(&placed, level, area, &figures, &greys, seen)?;
+        hold_to_demand3(rules, &placed, level, area, &figures, &greys, seen)?;
     }
     Ok(())
 }
 
-/// Holds a level of an outline to demand 3; `area` is the outline's signed area.
+/// Holds a level of an outline to demand 3; `area` is the outline's signed area. How many cells have ink above zero, and below it.
 fn hold_to_demand3(
+    rules: &dyn Rules,
     outline: &Outline,
     level: u32,
     area: i64,
     figures: &[i64],
     greys: &[u8],
     seen: &mut Seen,
-) -> Result<(), Difference> {
-    let looked = demand3::near(outline, level, area, figures, greys)?;
+) -> Result<[u64; 2], Difference> {
+    let looked = demand3::near_by(rules, outline, level, area, figures, greys)?;
     seen.cells += looked.cells;
     seen.greys_one_apart += looked.greys_one_apart;
+    seen.inked_below_zero += looked.inked[1];
     seen.consider(looked.worst);
-    Ok(())
+    Ok(looked.inked)
 }
 
 /// Draws a level of a table as figures and as greys.

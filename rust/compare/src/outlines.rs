@@ -1,5 +1,5 @@
 //! Accepted outlines of many kinds: long edges and short, edges that touch or cross grid lines, corners and the border, hairlines, outlines
-//! without area, round and round the same points, the same contour twice, no contour at all.
+//! without area, round and round the same points, the same contour twice, letters with holes, no contour at all; clockwise, anticlockwise and mixed.
 //!
 //! How often each comes, and the reach of a random step, are chosen so that every kind comes by the hundred in the gate's run, and no claim
 //! leans on them: `tests/differential.rs` asserts what must have come.
@@ -77,13 +77,13 @@ pub fn outline(random: &mut Random, side: u32, large: bool) -> Outline {
         // one kind for the whole outline, or for each contour its own
         let make = *KINDS.get(kind).unwrap_or(&KINDS[random.index(KINDS.len())]);
         let contour = match points.len().checked_sub(count) {
-            // the latest points once more, or backwards
-            Some(from) if random.once_in(10) => {
-                let latest = points[from..].iter().copied();
-                if random.once_in(2) {
-                    latest.collect()
-                } else {
-                    latest.rev().collect()
+            // the latest points once more, or backwards, or backwards at half the size
+            Some(from) if random.once_in(6) => {
+                let latest = &points[from..];
+                match random.index(4) {
+                    0 => latest.to_vec(),
+                    1 => latest.iter().rev().copied().collect(),
+                    _ => hole(latest),
                 }
             }
             _ => make(random, limit, count),
@@ -92,6 +92,16 @@ pub fn outline(random: &mut Random, side: u32, large: bool) -> Outline {
         points.extend(contour.iter().map(|&(x, y)| (x.clamp(0, limit), y.clamp(0, limit))));
     }
     Outline { side, points: points.iter().flat_map(|&(x, y)| [x, y]).collect(), counts }
+}
+
+/// A hole in a contour: its points halfway to its middle, and backwards. So it is clockwise where the contour is anticlockwise.
+fn hole(contour: &[Point]) -> Vec<Point> {
+    let middle = |of: fn(&Point) -> i64| {
+        let (least, most) = (contour.iter().map(of).min(), contour.iter().map(of).max());
+        least.zip(most).map_or(0, |(least, most)| (least + most) / 2)
+    };
+    let (x, y) = (middle(|point| point.0), middle(|point| point.1));
+    contour.iter().rev().map(|point| ((point.0 + x) / 2, (point.1 + y) / 2)).collect()
 }
 
 /// The points of a contour alone, of any kind.
@@ -347,6 +357,39 @@ mod tests {
             most > 20 && empty > 10 && exact > 100,
             "{most} with the most edges, {empty} empty, {exact} octilinear"
         );
+    }
+
+    /// The first and last of some numbers in their order.
+    fn ends(numbers: impl Iterator<Item = i64> + Clone) -> (i64, i64) {
+        (numbers.clone().min().unwrap(), numbers.max().unwrap())
+    }
+
+    /// Letters with a hole in their middle come clockwise with the hole anticlockwise, and the other way round.
+    #[test]
+    fn letters_have_holes() {
+        let mut random = Random::new(4);
+        let mut letters = [0, 0];
+        for number in 0..7000 {
+            let made = outline(&mut random, SIDES[number % 7], false);
+            let mut contours = Vec::new();
+            let mut rest = &made.points[..];
+            for &count in &made.counts {
+                let (points, after) = rest.split_at(2 * count as usize);
+                rest = after;
+                let (x, y) = (points.iter().step_by(2).copied(), points.iter().skip(1).step_by(2).copied());
+                contours.push((reference::signed_area(points, &[count]), ends(x), ends(y)));
+            }
+            for two in contours.windows(2) {
+                let [(letter, x, y), (hole, hole_x, hole_y)] = two else { unreachable!("windows of two") };
+                let inside = |of: &(i64, i64), hole: &(i64, i64)| of.0 < hole.0 && hole.1 < of.1;
+                if letter.signum() == -hole.signum() && inside(x, hole_x) && inside(y, hole_y) {
+                    letters[(*letter < 0) as usize] += 1;
+                }
+            }
+        }
+        // without `hole` there are some fifty of each
+        assert!(letters.iter().all(|&letters| letters > 120), "clockwise and anticlockwise with a hole: {letters:?}");
+        println!("outlines: of 7,000, clockwise and anticlockwise with a hole: {letters:?}");
     }
 
     #[test]

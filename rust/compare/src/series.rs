@@ -391,7 +391,7 @@ fn as_drawn(rules: &dyn Rules, random: &mut Random, known: &Known, near: Option<
         }
         if let Some(outline) = near {
             let area = reference::signed_area(&outline.points, &outline.counts);
-            demand3::near(outline, level, area, &figures, &greys)?;
+            demand3::near_by(rules, outline, level, area, &figures, &greys)?;
         }
     }
     Ok(())

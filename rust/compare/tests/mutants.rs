@@ -17,9 +17,10 @@ fn first_difference(rules: &dyn Rules) -> Option<(u64, Difference)> {
 
 #[test]
 fn wrong_references_are_caught() {
-    let (of_tiles, of_placements) = (reference::wrong::all(), reference::wrong::of_placement());
-    assert!(of_tiles.len() >= 5 && of_placements.len() >= 5);
-    for (name, rules) in of_tiles.into_iter().chain(of_placements) {
+    use reference::wrong::{all, of_magnitude, of_placement};
+    let lists = [all(), of_placement(), of_magnitude()];
+    assert!(lists.iter().all(|list| list.len() >= 5));
+    for (name, rules) in lists.into_iter().flatten() {
         let (number, difference) =
             first_difference(&*rules).unwrap_or_else(|| panic!("{name}: not caught in {CASES} cases"));
         println!("mutants: {name}: caught in case {number}: {difference}");
@@ -78,6 +79,22 @@ fn greys_two_apart_are_caught() {
     assert!(demand3::near(&outline, 1, area, &figures, &greys).is_ok());
     greys[1] += 1;
     assert!(demand3::near(&outline, 1, area, &figures, &greys).is_err());
+}
+
+/// 01's letter D run the other way: demand 3 wants the grey of the magnitude, of what is drawn and of the exact area.
+#[test]
+fn white_below_zero_is_caught() {
+    let exact_white = &reference::wrong::ExactBelowZeroWhite;
+    let square = [0, 0, 256, 0, 256, 256, 0, 256];
+    let back = [0, 0, 0, 256, 256, 256, 256, 0];
+    for (points, area) in [(square, 131_072), (back, -131_072)] {
+        let outline = Outline { side: 2, points: points.to_vec(), counts: vec![4] };
+        let (figures, ink, white) = ([4 * area, 0, 0, 0], [255, 0, 0, 0], [0; 4]);
+        let near = |rules: &dyn Rules, greys| demand3::near_by(rules, &outline, 1, area, &figures, greys).is_ok();
+        assert_eq!((near(&Spec, &ink), near(&Spec, &white)), (true, false));
+        // a demand 3 that is wrong itself tells the two apart only clockwise
+        assert_eq!((near(exact_white, &ink), near(exact_white, &white)), (area > 0, area < 0));
+    }
 }
 
 #[test]

@@ -42,13 +42,15 @@ fn every_step_of_the_greys() {
         let full = PIXEL * i64::from(side * side);
         let mut table = vec![0; (side * side) as usize];
         // two past the last grey, which are held at it
-        for grey in 0..258 {
+        for grey in 1..258 {
             // the least figure with 255 × figure / full at or past grey − 1/2
             let first = -((1 - 2 * grey) * full).div_euclid(2 * 255);
             for (figure, expected) in [(first - 1, grey - 1), (first, grey), (first + 1, grey)] {
-                table[0] = figure;
-                let drawn = greys(&Spec, side, 0, &table, &[5]).unwrap().unwrap();
-                assert_eq!(i64::from(drawn[0]), expected.clamp(0, 255), "side {side}, figure {figure}");
+                for figure in [figure, -figure] {
+                    table[0] = figure;
+                    let drawn = greys(&Spec, side, 0, &table, &[5]).unwrap().unwrap();
+                    assert_eq!(i64::from(drawn[0]), expected.clamp(0, 255), "side {side}, figure {figure}");
+                }
             }
         }
     }
@@ -123,12 +125,15 @@ fn misses_near_the_bound() {
 
 #[test]
 fn a_grey_that_is_one_apart() {
-    // 256 times round a small outline: 0.9950 of a grey between what is drawn and what is exact, from the same page.
+    // 256 times round a small outline: 0.9950 of a grey between what is drawn and what is exact, from the same page. And the other way round.
     let round = [8015, 8348, 8277, 8018, 8003, 8429, 8197, 8075];
-    let outline = Outline { side: 64, points: round.repeat(256), counts: vec![MOST_EDGES] };
-    let (_, table) = build(&Spec, 64, &outline.points, &outline.counts, &[7; 4096]).unwrap().unwrap();
-    let drawn = greys(&Spec, 64, 6, &table, &[7; 4096]).unwrap().unwrap();
-    let exact = reference::exact_areas(64, &outline.points, &outline.counts, 6);
-    let cell = 31 * 64 + 31;
-    assert_eq!((drawn[cell], exact[cell].grey(64, 6)), (248, 249));
+    let back = [8197, 8075, 8003, 8429, 8277, 8018, 8015, 8348];
+    for points in [round, back] {
+        let outline = Outline { side: 64, points: points.repeat(256), counts: vec![MOST_EDGES] };
+        let (_, table) = build(&Spec, 64, &outline.points, &outline.counts, &[7; 4096]).unwrap().unwrap();
+        let drawn = greys(&Spec, 64, 6, &table, &[7; 4096]).unwrap().unwrap();
+        let exact = reference::exact_areas(64, &outline.points, &outline.counts, 6);
+        let cell = 31 * 64 + 31;
+        assert_eq!((drawn[cell], exact[cell].grey(64, 6)), (248, 249));
+    }
 }
