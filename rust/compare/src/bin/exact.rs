@@ -144,15 +144,27 @@ code. ",
         ),
     };
     let (side, edges) = (outline.side, grouped(outline.edges().into()));
+    let mut hand = String::new();
+    if area < 0 {
+        // said of the outline as placed, because a placement that mirrors turns the hand round
+        let which = if placement == Placement::None { "the outline" } else { "the outline as placed" };
+        writeln!(
+            hand,
+            "That is below zero, so on the whole {which} is traced anticlockwise; it is drawn all the same, by \
+             magnitude."
+        )
+        .unwrap();
+    }
     let (sign, area) = (if area < 0 { "-" } else { "" }, grouped(area.unsigned_abs()));
     format!(
         "{name}: the drawn letter beside the exact ink
 A tile of {side} x {side} pixels; an outline of {edges} edges; a signed area of {sign}{area} units, 131,072 a pixel.
-
+{hand}
 {drawn_by}The exact areas and greys were worked out from the outline by another program, another way, in exact fractions;
 decimals are rounded for the page, what is compared is not. A miss is how far a drawn area is from the exact one. It
 is proved never to pass its bound, which is just under half a unit for each edge, less at coarse levels and none at
-the coarsest: ratio 1 would be the bound itself. A grey may be one from the exact area's, never two.
+the coarsest: ratio 1 would be the bound itself. A grey is that of an area's magnitude, and may be one from the exact
+area's, never two.
 
 "
     )
@@ -204,11 +216,11 @@ fn summary(outline: &Outline, area: i64, levels: &[Level]) -> (String, bool) {
 fn cells(outline: &Outline, level: &Level) -> String {
     let across = 1usize << level.level;
     let mut text = format!("\nLevel {}, cell by cell, row by row from the top left:\n", level.level);
-    text += "column  row      drawn area      exact area        miss    ratio   grey   exact grey\n";
+    text += "column  row        drawn area        exact area        miss    ratio   grey   exact grey\n";
     for cell in 0..level.exact.len() {
         writeln!(
             text,
-            "{:>6} {:>4} {:>15} {:>15} {:>11} {:>8.4} {:>6} {:>12}",
+            "{:>6} {:>4} {:>17} {:>17} {:>11} {:>8.4} {:>6} {:>12}",
             cell % across,
             cell / across,
             level.area(cell).decimal(PLACES),
