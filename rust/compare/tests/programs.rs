@@ -6,17 +6,28 @@ use std::io::Write;
 use std::path::{Path, PathBuf};
 use std::process::{Command, Output, Stdio};
 
-/// A frame of side 4 with slanted edges and a hole, at level 2.
+/// A frame of side 4 with slanted edges and two contours that overlap, at level 2. One of its cells has an area below zero.
 const FRAME: &str = "0402\n00100020038003c00040030001000020\n0100010001800100010a01a0\n";
 
-/// A folder of this test's own with the frame and what the tile program answers to it at each level.
-fn folder(test: &str) -> (PathBuf, Vec<PathBuf>) {
+/// The frame with every contour traced the other way round.
+fn traced_back(frame: &str) -> String {
+    let (header, contours) = frame.split_once('\n').unwrap();
+    let mut text = format!("{header}\n");
+    for contour in contours.lines() {
+        text.extend((0..contour.len() / 8).rev().map(|i| &contour[8 * i..8 * i + 8]));
+        text.push('\n');
+    }
+    text
+}
+
+/// A folder of this test's own with the frame, of side 4, and what the tile program answers to it at each level.
+fn folder(test: &str, frame: &str) -> (PathBuf, Vec<PathBuf>) {
     let folder = Path::new(env!("CARGO_TARGET_TMPDIR")).join(test);
     fs::create_dir_all(&folder).unwrap();
-    fs::write(folder.join("frame"), FRAME).unwrap();
+    fs::write(folder.join("frame"), frame).unwrap();
     let answer = |level| {
         let path = folder.join(format!("answer-{level}"));
-        let text = FRAME.replacen("0402", &format!("040{level}"), 1);
+        let text = frame.replacen("0402", &format!("040{level}"), 1);
         fs::write(&path, reference::tile_program(&Spec, text.as_bytes())).unwrap();
         path
     };
@@ -25,7 +36,18 @@ fn folder(test: &str) -> (PathBuf, Vec<PathBuf>) {
 }
 
 fn exact(folder: &Path, answers: &[PathBuf]) -> Output {
-    Command::new(env!("CARGO_BIN_EXE_exact")).arg("a letter").arg(folder.join("frame")).args(answers).output().unwrap()
+    exact_placed(folder, &[], answers)
+}
+
+fn exact_placed(folder: &Path, words: &[&str], answers: &[PathBuf]) -> Output {
+    let mut exact = Command::new(env!("CARGO_BIN_EXE_exact"));
+    exact.arg("a letter").arg(folder.join("frame")).args(words).args(answers).output().unwrap()
+}
+
+/// The words of each cell's line.
+fn cells(page: &str) -> Vec<Vec<&str>> {
+    let lines = page.lines().skip_while(|line| !line.starts_with("column")).skip(1);
+    lines.map(|line| line.split_whitespace().collect()).collect()
 }
 
 fn text(output: &[u8]) -> String {
@@ -34,19 +56,14 @@ fn text(output: &[u8]) -> String {
 
 #[test]
 fn page_of_a_letter() {
-    let (folder, answers) = folder("page");
+    let (folder, answers) = folder("page", FRAME);
     let output = exact(&folder, &answers);
     let page = text(&output.stdout);
     assert!(output.status.success(), "{page}{}", text(&output.stderr));
     assert!(page.starts_with("a letter: "));
     assert!(page.contains("Every miss is within its bound"));
     // Every cell of the frame's own level, with the program's grey of it.
-    let rows: Vec<Vec<&str>> = page
-        .lines()
-        .skip_while(|line| !line.starts_with("column"))
-        .skip(1)
-        .map(|line| line.split_whitespace().collect())
-        .collect();
+    let rows = cells(&page);
     assert_eq!(rows.len(), 16);
     let greys: Vec<u8> = rows.iter().map(|row| row[6].parse().unwrap()).collect();
     let answered = fs::read_to_string(&answers[2]).unwrap();
@@ -58,9 +75,41 @@ fn page_of_a_letter() {
     assert!(rows.iter().any(|row| !row[2].ends_with(".000")), "no drawn area with a fraction:\n{page}");
 }
 
+/// What the head of a page says of an outline, before the blank line.
+fn head(page: &str) -> Vec<&str> {
+    page.lines().take_while(|line| !line.is_empty()).collect()
+}
+
+#[test]
+fn page_of_a_letter_traced_anticlockwise() {
+    let page = |test: &str, frame: &str| {
+        let (folder, answers) = folder(test, frame);
+        let output = exact(&folder, &answers);
+        assert!(output.status.success(), "{}{}", text(&output.stdout), text(&output.stderr));
+        text(&output.stdout)
+    };
+    let (clockwise, anticlockwise) = (page("clockwise", FRAME), page("anticlockwise", &traced_back(FRAME)));
+    assert!(!clockwise.contains("anticlockwise"), "{clockwise}");
+    assert!(anticlockwise.contains("a signed area of -"), "{anticlockwise}");
+    let line = "That is below zero, so on the whole the outline is traced anticlockwise; it is drawn all the same, by magnitude.";
+    assert_eq!(head(&anticlockwise)[2..], [line]);
+    // An outline of area 0 has no hand: here the second contour goes back over the first.
+    let both_ways = "0402\n000000000400000000000400\n000000000000040004000000\n";
+    assert!(!page("neither", both_ways).contains("anticlockwise"));
+
+    // Each area is the opposite, drawn or exact, and each grey the same.
+    let (rows, opposite) = (cells(&clockwise), cells(&anticlockwise));
+    assert_eq!((rows.len(), opposite.len()), (16, 16));
+    let number = |word: &str| word.parse::<f64>().unwrap();
+    for (row, opposite) in rows.iter().zip(&opposite) {
+        assert_eq!([number(row[2]), number(row[3])], [-number(opposite[2]), -number(opposite[3])]);
+        assert_eq!(row[6..], opposite[6..], "grey and exact grey of column {}, row {}", row[0], row[1]);
+    }
+}
+
 #[test]
 fn wrong_answers_are_told() {
-    let (folder, answers) = folder("wrong");
+    let (folder, answers) = folder("wrong", FRAME);
     let right = fs::read_to_string(&answers[1]).unwrap();
     let (first, rows) = right.split_once('\n').unwrap();
     let grey = u8::from_str_radix(&rows[..2], 16).unwrap();
@@ -133,14 +182,11 @@ fn placed_frames() {
 
 #[test]
 fn page_of_a_placed_letter() {
-    let (folder, answers) = folder("placed");
+    let (folder, answers) = folder("placed", FRAME);
     for (level, answer) in answers.iter().enumerate() {
         fs::write(answer, expected(TURN, level as u32)).unwrap();
     }
-    let page = |words: &[&str]| {
-        let mut exact = Command::new(env!("CARGO_BIN_EXE_exact"));
-        exact.arg("a letter").arg(folder.join("frame")).args(words).args(&answers).output().unwrap()
-    };
+    let page = |words: &[&str]| exact_placed(&folder, words, &answers);
     let output = page(&TURN_WORDS);
     let placed = text(&output.stdout);
     assert!(output.status.success(), "{placed}{}", text(&output.stderr));
@@ -149,6 +195,15 @@ fn page_of_a_placed_letter() {
     for words in [&[][..], &["--scale", "1"], &["--scale"]] {
         assert_eq!(page(words).status.code(), Some(2), "{words:?}");
     }
+    // A turn keeps the hand, and a mirror changes it.
+    assert!(!placed.contains("anticlockwise"));
+    for (level, answer) in answers.iter().enumerate() {
+        fs::write(answer, expected(Placement::Turn([-1.0, 0.0, 1024.0, 0.0, 1.0, 0.0]), level as u32)).unwrap();
+    }
+    let output = page(&["--turn", "-1", "0", "1024", "0", "1", "0"]);
+    let mirrored = text(&output.stdout);
+    assert!(output.status.success(), "{mirrored}{}", text(&output.stderr));
+    assert!(head(&mirrored)[2].contains("the outline as placed is traced anticlockwise"), "{mirrored}");
 }
 
 #[test]
