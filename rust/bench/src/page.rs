@@ -121,8 +121,8 @@ fn how_measured() -> String {
          at the whole table, which each of the two calls does before and after.\n\
          - **FreeType and AGG** have no table. Each size is a drawing of its own, from the outline scaled to it; scaling and \
          clearing the bitmap are in the times, opening the library, or making the rasteriser and its memory, is not.\n\
-         - **FreeType** takes points in 1/64 pixel, to which ours are rounded; AGG takes 1/256, as ours are. Both fill where \
-         the winding is not 0.\n",
+         - **FreeType** takes points in 1/64 pixel, to which ours are rounded; AGG takes 1/256, as ours are. Both are \
+         set to fill where the winding is not 0.\n",
         thousands(EDGES as i64),
         SAMPLE.as_millis()
     )
@@ -224,8 +224,8 @@ fn differences(measured: &[Measured]) -> String {
         "## The same pictures\n\n\
          By how many of 255 greys the others' pictures differ from ours, at most, in all outlines, for each size in pixels \
          across. They round the scaled points to their own steps, which are coarser for a small size, and with random edges a \
-         thousand such errors add up. Pixels whose signed area is negative are left out: ours are white there, and the \
-         others draw the magnitude. Letters have none.\n\n",
+         thousand such errors add up. Every pixel is compared: like ours, the others draw the magnitude of a pixel's signed \
+         area, held at full ink, also where contours overlap or go anticlockwise.\n\n",
     );
     let sizes: Vec<String> = (0..=DEPTH).map(|level| (1 << level).to_string()).collect();
     line(&mut text, &format!("| | {} |", sizes.join(" | ")));
