@@ -19,7 +19,7 @@ use Rattle.integers.specs.Magnitude.{abs}
 use Rattle.integers.specs.ListSum.{All, total, tally}
 use Rattle.edge.specs.declared.Edge.{Edge}
 use Rattle.edge.specs.Octilinear.{Octilinear}
-use Rattle.haar.specs.Table.{Bounded}
+use Rattle.haar.specs.Table.{negated, Bounded}
 use Rattle.haar.specs.Pictures.{picture}
 use Rattle.haar.specs.Greys.{grey, greyOf, OneApart}
 use Rattle.haar.specs.Plane.{dimensions, quarterDetails, at, figureAt}
@@ -27,7 +27,7 @@ use Rattle.accuracy.specs.Outline.{Point, outlineEdges, signedArea}
 use Rattle.accuracy.specs.Tile.{CellOf}
 use Rattle.accuracy.specs.ExactArea.{denominator, exactAreaNum}
 use Rattle.accuracy.specs.ExactDetails.{exactDetailNum, QuarterDifferences}
-use Rattle.accuracy.specs.OutlineTable.{outlineTable, negated}
+use Rattle.accuracy.specs.OutlineTable.{outlineTable}
 
 abbrev pub miss : ℕ → List Edge → ℕ → ℕ → ℕ → ℤ
 miss depth es level cx cy = figureAt (outlineTable depth es) level cx cy *ℤ pos (denominator es) -ℤ pos (4 ^ level) *ℤ exactAreaNum depth es level (at cx cy)
@@ -52,8 +52,8 @@ pub record Accurate (depth : ℕ) (es : List Edge) : Type 0 where
       → (pos 2 *ℤ abs (miss depth es level cx cy)) ≤ℤ pos (twiceMissLimit level (length es) * denominator es)
   -- "It is equal where every edge is level, upright or at 45 degrees."
   pub equal : All Octilinear es → (level cx cy : ℕ) → CellOf depth level cx cy → miss depth es level cx cy ≡ pos 0
-  -- "Each grey is at most one from the exact area's grey", which "comes by the rule above from 4^L times the cell's exact area in place of the figure",
-  -- where the edges are at most 1,024, question 5's limit
+  -- "A cell's grey is still at most one from the grey of the exact area, taken the same way": of the magnitude of 4^L times the cell's exact area in place
+  -- of the figure, where the edges are at most 1,024, question 5's limit
   pub greys : length es ≤ mostEdges → (level cx cy : ℕ) → CellOf depth level cx cy
       → OneApart (greyOf (2 ^ depth) (figureAt (outlineTable depth es) level cx cy))
       (grey (2 ^ depth) (pos (4 ^ level) *ℤ exactAreaNum depth es level (at cx cy)) (denominator es))

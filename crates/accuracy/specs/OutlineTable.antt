@@ -3,10 +3,8 @@
 -- Definitions
 --   edgeTable depth e                     what one edge adds: its term of the signed area, and its three rounded details in each cell
 --   outlineTable depth es                 the sums over the edges
---   negated t                             the table with every entry of the opposite sign
 use mathlib.Core.List.{List}
 use Prim.Native.Nat.{ℕ}
-use lib.IntN.{negℤ}
 use Rattle.integers.specs.ListSum.{total}
 use Rattle.edge.specs.declared.Edge.{Edge}
 use Rattle.edge.specs.Rounded.{details, rootTerm}
@@ -23,6 +21,3 @@ edgeTable depth e = record { root = rootTerm e; detail = λ j cell k. numbered (
 -- "Entry 0 is the root, the signed area of the whole outline", the sum of the edges' root terms. With no edge every entry is 0.
 abbrev pub outlineTable : ℕ → List Edge → Coefficients dimensions
 outlineTable depth es = record { root = signedArea es; detail = λ j cell k. total (λ e. edgeTable depth e .detail j cell k) es }
-
-abbrev pub negated : Coefficients dimensions → Coefficients dimensions
-negated t = record { root = negℤ (t .root); detail = λ j cell k. negℤ (t .detail j cell k) }

@@ -32,7 +32,7 @@ printedGrey out level cx cy = hexValue (take greyWidth (drop (digitsAt level cx 
 pub record Printed (f : Frame) (out : List ℕ) : Type 0 where
   -- the first line has the edge count (the counts' sum) and the outline's signed area
   pub first-line : take summaryLength out ≡ summaryText (edgeCount (f .counts)) (signedArea (edgesOf (f .points) (f .counts)))
-  -- "Each grey is at most one from the exact area's grey." The exact area is a fraction.
+  -- "A cell's grey is still at most one from the grey of the exact area, taken the same way": `grey` is of the magnitude. The exact area is a fraction.
   pub greys : (cx cy : ℕ) → cx < 2 ^ f .level → cy < 2 ^ f .level
       → OneApart (printedGrey out (f .level) cx cy)
       (grey (f .side) (exactFigureNum (f .side) (f .points) (f .counts) (f .level) cx cy) (exactDenominator (f .points) (f .counts)))

@@ -3,7 +3,7 @@
 --
 -- Definitions
 --   full side                    the figure of a cell that is all ink: as large at every level
---   inkGrey side num den         01's rule: the grey of num / den in a figure's place, on a tile of side × side pixels; below zero it is white
+--   inkGrey side num den         01's rule: the grey of an amount of ink, num / den in a figure's place, on a tile of side × side pixels
 --   grey side num den            the grey of num / den: by that rule, of its magnitude
 --   greyOf side f                the grey of the figure f
 --   OneApart a b                 two greys that are at most one apart
@@ -19,7 +19,8 @@ abbrev pub full : ℕ → ℕ
 full side = unitsPerPixel * (side * side)
 
 -- "The grey is 255 × figure / (131,072 × side × side), the same at every level, rounded to the nearest whole number, halves up, then held
--- between 0 and 255. A figure below zero is 0, white." What is held so is not negative, and `natAbs` only makes a natural number of it.
+-- between 0 and 255. A figure below zero is 0, white." (02's P4 has overruled this last sentence: `grey`, below, hands this rule no number below zero.)
+-- What is held so is not negative, and `natAbs` only makes a natural number of it.
 unfoldable pub inkGrey : ℕ → ℤ → ℕ → ℕ
 inkGrey side num den = natAbs (clamp (roundHalfUp (pos fullGrey *ℤ num) (full side * den)) (pos 0) (pos fullGrey))
 

@@ -4,13 +4,14 @@
 --   Coefficients n               a root, and detail e of each cell of each level
 --   index n j cell e             where detail e of a cell of level j stands in the list
 --   stored n entries             the coefficients that a list of entries holds
+--   negated t                    the table with every entry of the opposite sign
 --   Bounded n depth r b t        r bounds the root of t, either way, and b each cell's details at every level below the depth
 --   SameBelow n depth t u        two tables have the same root, and the same details at every level below the depth
 use mathlib.Core.Path.{_≡_}
 use mathlib.Core.List.{List}
 use Prim.Native.Nat.{ℕ, _+_, _*_, _-_, _^_, _<_, _≤_}
 use lib.ListN.{getD}
-use lib.IntN.{ℤ, pos}
+use lib.IntN.{ℤ, pos, negℤ}
 use Rattle.integers.specs.Within.{Within}
 use Rattle.haar.specs.Cells.{children, details, Cell, Below, rowMajor}
 
@@ -29,6 +30,9 @@ stored n entries = record {
   root = getD entries 0 (pos 0);
   detail = λ j cell e. getD entries (index n j cell e) (pos 0);
 }
+
+abbrev pub negated : {n : ℕ} → Coefficients n → Coefficients n
+negated t = record { root = negℤ (t .root); detail = λ j cell e. negℤ (t .detail j cell e) }
 
 pub record Bounded (n depth r : ℕ) (b : ℕ → Cell n → ℕ) (t : Coefficients n) : Type 0 where
   pub root-within : Within (pos r) (t .root)

@@ -7,11 +7,12 @@
 --   every-pair                 the same of two elements at once
 --   every-entry, every-part    where the test holds of every element, it holds of one, and of every element of a part
 --   every-append, every-both   a test of two lists, one after the other; two tests of one list
+--   every-map                  a test of what is made of each element
 --   every-perm                 the order of the list does not matter
 use mathlib.Core.Path.{_≡_, refl, sym, _∙_, ap, ap₂}
 use mathlib.Core.Logic.{_↔_, ∥∥₁-elim}
 use mathlib.Core.Bool.{Bool, true, false, _&&_, Bool-set}
-use mathlib.Core.List.{List, [], _∷_, _++_, Perm, List·Permᴰ, List·Permᴰ·nil, List·Permᴰ·cons, List·Permᴰ·swap, List·Permᴰ·trans}
+use mathlib.Core.List.{List, [], _∷_, _++_, map, Perm, List·Permᴰ, List·Permᴰ·nil, List·Permᴰ·cons, List·Permᴰ·swap, List·Permᴰ·trans}
 use Prim.Native.Nat.{ℕ, suc, _+_, _<_, _≤_}
 use native.Mathlib.Numerals.{add-one}
 use native.Mathlib.Omega.{arith}
@@ -95,3 +96,7 @@ module _ {A : Type 0} (test : A → Bool) where
 
   pub every-perm : {k l : List A} → Perm k l → every test k ≡ every test l
   every-perm {k} {l} p = ∥∥₁-elim p (Bool-set (every test k) (every test l)) (λ d. every-permᴰ d)
+
+pub every-map : {A B : Type 0} (test : B → Bool) (f : A → B) (l : List A) → every test (map f l) ≡ every (λ a. test (f a)) l
+every-map test f [] = refl
+every-map test f (a ∷ l) = ap (λ b. test (f a) && b) (every-map test f l)

@@ -5,7 +5,7 @@
 --   abs-nonneg, le-abs, neg-le-abs, abs-le     |z| ≤ b is z ≤ b and −z ≤ b
 --   abs-pos, abs-neg, abs-mul       of a natural number, a negation, a product
 --   abs-triangle, abs-difference    of a sum; of a difference
---   natAbs-mul, natAbs-triangle     the last two, of natural numbers
+--   natAbs-mul, natAbs-triangle     of a product and of a sum, as natural numbers
 use mathlib.Core.Path.{_≡_, refl, ap, subst}
 use mathlib.Core.List.{[], _∷_}
 use Prim.Native.Nat.{ℕ, zero, suc, _+_, _*_, _≤_}

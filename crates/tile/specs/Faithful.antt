@@ -61,7 +61,7 @@ pub record CellDrawn (side : ℕ) (es : List Edge) (twiceLimit : ℕ → ℕ →
   -- "A cell's drawn area is its figure over 4^L." It differs from the exact area by at most a quarter of a square step for each edge. (This is demand 3 in
   -- square steps; `close` is a little narrower.)
   pub area : WithinQuarterSquareSteps (length es) (cellResult side level cx cy table .figure) (4 ^ level) (exactAreaNum (depthOf side) es level (at cx cy)) (denominator es)
-  -- "Each grey is at most one from the exact area's grey."
+  -- "A cell's grey is still at most one from the grey of the exact area, taken the same way": `grey` is of the magnitude, on both sides
   pub greys : (picture : List ℕ) → length picture ≡ 4 ^ level
       → OneApart (getD (greysPicture side level table picture) (pictureIndex level cx cy) 0) (grey side (figureNum side es level cx cy) (denominator es))
 

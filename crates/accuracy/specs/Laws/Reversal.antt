@@ -2,9 +2,11 @@
 --
 -- Main results
 --   outlineTable-reverse         the reversed edges have the opposite table
+--   contourEdges-last            a contour that begins at its last point has the same edges, in another order
 --   contourEdges-reverse         a contour's points backwards: its edges reversed, in another order
 --   outlineEdges-reverse         the same of every contour of an outline
---   outline-reversed             the outline so walked has the opposite table
+--   reversed-edges-table         edges that are reversed, in whatever order, have the opposite table
+--   outline-reversed             so has the outline so walked
 use mathlib.Core.Path.{_≡_, refl, _∙_, ap, ap₂, fun-ext}
 use mathlib.Core.List.{List, [], _∷_, _++_, map, map-append, reverse as backwards, reverse-cons}
 use mathlib.Core.List.{Perm, Perm·nil, Perm·refl, Perm·cons, Perm·swap, Perm·trans, Perm·symm, Perm·append}
@@ -15,10 +17,11 @@ use Rattle.edge.specs.declared.Edge.{Edge}
 use Rattle.edge.specs.declared.Cell.{Cell as Square}
 use Rattle.edge.specs.Rounded.{details, rootTerm}
 use Rattle.edge.specs.Laws.Reversal.{reverse, details-reverse, root-reverse}
+use Rattle.haar.specs.Table.{negated}
 use Rattle.accuracy.specs.Outline.{Point, edgeBetween, through, contourEdges, outlineEdges}
 use Rattle.accuracy.specs.Tile.{square}
 use Rattle.accuracy.specs.ExactDetails.{numbered}
-use Rattle.accuracy.specs.OutlineTable.{edgeTable, outlineTable, negated}
+use Rattle.accuracy.specs.OutlineTable.{edgeTable, outlineTable}
 use Rattle.accuracy.specs.Laws.Numbered.{numbered-each}
 use Rattle.accuracy.specs.Laws.Order.{outlineTable-perm}
 
@@ -49,7 +52,7 @@ through-reverse p (q ∷ qs) last =
     rw (reverse-cons q qs) (Perm·trans (through-last last (backwards qs) q p) (Perm·cons (edgeBetween q p) (through-reverse q qs last)))
 
 -- a contour has the same edges if it begins at its last point; and backwards, the first point is the last
-contourEdges-last : (qs : List Point) (p : Point) → Perm (contourEdges (qs ++ (p ∷ []))) (contourEdges (p ∷ qs))
+pub contourEdges-last : (qs : List Point) (p : Point) → Perm (contourEdges (qs ++ (p ∷ []))) (contourEdges (p ∷ qs))
 unfolding contourEdges through
 contourEdges-last [] p = Perm·refl (through p [] p)
 contourEdges-last (q ∷ qs) p = through-last q qs p q
@@ -65,6 +68,9 @@ outlineEdges-reverse [] = Perm·nil
 outlineEdges-reverse (c ∷ cs) =
     rw (map-append reverse (contourEdges c) (outlineEdges cs)) (Perm·append (contourEdges-reverse c) (outlineEdges-reverse cs))
 
+pub reversed-edges-table : (depth : ℕ) (es : List Edge) {fs : List Edge} → Perm fs (map reverse es) → outlineTable depth fs ≡ negated (outlineTable depth es)
+reversed-edges-table depth es p = outlineTable-perm depth (Perm·symm p) ∙ outlineTable-reverse depth es
+
 pub outline-reversed : (depth : ℕ) (cs : List (List Point))
     → outlineTable depth (outlineEdges (map backwards cs)) ≡ negated (outlineTable depth (outlineEdges cs))
-outline-reversed depth cs = outlineTable-perm depth (Perm·symm (outlineEdges-reverse cs)) ∙ outlineTable-reverse depth (outlineEdges cs)
+outline-reversed depth cs = reversed-edges-table depth (outlineEdges cs) (outlineEdges-reverse cs)

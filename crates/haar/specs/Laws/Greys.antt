@@ -1,14 +1,14 @@
--- Greys, of magnitudes: bytes, the same either way round, which rise with the magnitude and move by at most one where the fraction moves by at most a
--- grey. Sides and denominators are above 0.
+-- Greys, of magnitudes: bytes, the same either way round, which move by at most one where the fraction moves by at most a grey. Where it matters, sides and
+-- denominators are above 0.
 --
 -- Main results
---   grey-byte                    a grey is at most 255
 --   grey-neg                     −num / den has the grey of num / den
---   grey-mono                    a larger magnitude has no smaller grey
+--   grey-byte                    a grey is at most 255
 --   greys-one-apart              fractions at most a 255th of the full figure apart have greys at most one apart
---   grey-whole                   n 255ths of the full figure have the grey n
---   grey-half, grey-half-below   half a 255th more, the next one; below zero too: the magnitude is rounded, and not the fraction
+--   grey-nearest                 up to the full figure it is the whole number nearest to the magnitude's 255ths of it, halves up
+--   grey-half, grey-half-below   n 255ths of it and a half have the grey n + 1, up to 255; below zero too: the magnitude is rounded, and not the fraction
 --   grey-magnitude               a figure's grey is 01's, of its magnitude
+--   grey-full                    a figure of the full figure's magnitude or more has the full grey
 use mathlib.Core.Path.{_≡_, refl, sym, _∙_, ap, ap₂}
 use mathlib.Core.List.{[], _∷_}
 use Prim.Native.Nat.{ℕ, _+_, _*_, _<_, _≤_}
@@ -16,26 +16,23 @@ use lib.IntN.{ℤ, pos, negℤ, natAbs, _-ℤ_, _*ℤ_}
 use lib.Signed.{_≤ℤ_}
 use Rattle.integers.specs.Units.{fullGrey}
 use Rattle.integers.specs.Ring.{read, ring}
-use Rattle.integers.specs.Magnitude.{abs, abs-pos, abs-neg, abs-mul}
+use Rattle.integers.specs.Order.{pos-≤ℤ}
+use Rattle.integers.specs.Magnitude.{abs, abs-pos, abs-nonneg, abs-neg, abs-mul}
 use Rattle.integers.specs.Within.{Within, within-is, within-abs}
+use Rattle.integers.specs.RoundHalfUp.{UpBounds}
 use Rattle.haar.specs.Greys.{full, inkGrey, grey, greyOf, OneApart}
-use Rattle.haar.specs.Laws.InkGreys.{ink-byte, ink-mono, ink-one-apart, ink-whole, ink-half}
-
-pub grey-byte : (side : ℕ) (num : ℤ) (den : ℕ) → grey side num den ≤ fullGrey
-unfolding grey
-grey-byte side num den = ink-byte side (abs num) den
+use Rattle.haar.specs.Laws.InkGreys.{ink-byte, ink-one-apart, ink-nearest, ink-half, ink-full}
 
 pub grey-neg : (side : ℕ) (num : ℤ) (den : ℕ) → grey side (negℤ num) den ≡ grey side num den
 unfolding grey
 grey-neg side num den = ap (λ z. inkGrey side z den) (abs-neg num)
 
+pub grey-byte : (side : ℕ) (num : ℤ) (den : ℕ) → grey side num den ≤ fullGrey
+unfolding grey
+grey-byte side num den = ink-byte side (abs num) den
+
 -- ---- two fractions, a / d and b / e
 module _ {side : ℕ} (s : 0 < side) (a b : ℤ) {d e : ℕ} (g : 0 < d) (h : 0 < e) where
-  -- |a / d| ≤ |b / e|
-  pub grey-mono : (abs a *ℤ pos e) ≤ℤ (abs b *ℤ pos d) → grey side a d ≤ grey side b e
-  unfolding grey
-  grey-mono k = ink-mono s (abs a) (abs b) g h k
-
   scaled : (z : ℤ) (n : ℕ) → abs (pos fullGrey *ℤ (z *ℤ pos n)) ≡ pos fullGrey *ℤ (abs z *ℤ pos n)
   scaled z n = abs-mul (pos fullGrey) (z *ℤ pos n) ∙ ap₂ _*ℤ_ (abs-pos fullGrey) (abs-mul z (pos n) ∙ ap (λ k. abs z *ℤ k) (abs-pos n))
 
@@ -50,11 +47,13 @@ module _ {side : ℕ} (s : 0 < side) (a b : ℤ) {d e : ℕ} (g : 0 < d) (h : 0 
       ap₂ _-ℤ_ (scaled a e) (scaled b d) ∙ ring (abs a ∷ abs b ∷ pos d ∷ pos e ∷ []) (search read depth 40) tt in
       ink-one-apart s (abs a) (abs b) g h (within-is refl magnitudes (within-abs x y (within-is refl apart w)))
 
--- ---- known greys
-pub grey-whole : {side : ℕ} (n : ℕ) → 0 < side → n ≤ fullGrey → grey side (pos (n * full side)) fullGrey ≡ n
+-- ---- the nearest, halves up
+pub grey-nearest : {side den : ℕ} (num : ℤ) → 0 < side → 0 < den → abs num ≤ℤ pos (full side * den)
+    → UpBounds (pos fullGrey *ℤ abs num) (pos (full side * den)) (pos (grey side num den))
 unfolding grey
-grey-whole {side} n s k = ap (λ z. inkGrey side z fullGrey) (abs-pos (n * full side)) ∙ ink-whole n s k
+grey-nearest {side} {den} num s g high = ink-nearest s g (abs-nonneg num) high
 
+-- ---- known greys
 pub grey-half : {side : ℕ} (n : ℕ) → 0 < side → n + 1 ≤ fullGrey → grey side (pos ((2 * n + 1) * full side)) (2 * fullGrey) ≡ n + 1
 unfolding grey
 grey-half {side} n s k = ap (λ z. inkGrey side z (2 * fullGrey)) (abs-pos ((2 * n + 1) * full side)) ∙ ink-half n s k
@@ -65,3 +64,6 @@ grey-half-below {side} n s k = grey-neg side (pos ((2 * n + 1) * full side)) (2 
 pub grey-magnitude : (side : ℕ) (f : ℤ) (n : ℕ) → n ≡ natAbs f → greyOf side f ≡ inkGrey side (pos n) 1
 unfolding grey abs
 grey-magnitude side f n e = ap (λ k. inkGrey side (pos k) 1) (sym e)
+
+pub grey-full : {side : ℕ} (f : ℤ) → 0 < side → full side ≤ natAbs f → greyOf side f ≡ fullGrey
+grey-full {side} f s h = grey-magnitude side f (natAbs f) refl ∙ ink-full s (pos-≤ℤ h)

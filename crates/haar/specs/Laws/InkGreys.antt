@@ -1,14 +1,15 @@
--- 01's rule of a grey: a byte, which rises with the fraction and moves by at most one where that moves by at most a grey. Sides and denominators are
--- above 0.
+-- 01's rule of a grey: a byte, which rises with the fraction and moves by at most one where that moves by at most a grey. Where it matters, sides and
+-- denominators are above 0.
 --
 -- Main results
 --   full-pos                     a tile's full figure is above 0
 --   ink-clamp, ink-byte          a grey is the rounded fraction, held; it is at most 255
 --   ink-mono                     a larger fraction has no smaller grey
 --   ink-one-apart                fractions at most a 255th of the full figure apart have greys at most one apart
---   ink-whole, ink-half          n 255ths of the full figure have the grey n; half a 255th more, the next one
+--   ink-nearest                  from 0 to the full figure it is the nearest whole number, halves up
+--   ink-whole, ink-half          n 255ths of the full figure have the grey n, up to 255; half a 255th more, the next one
 --   ink-full                     a figure of the full figure or more has the full grey
-use mathlib.Core.Path.{_≡_, sym, _∙_, ap, subst⁻¹, subst₂}
+use mathlib.Core.Path.{_≡_, sym, _∙_, ap, subst, subst⁻¹, subst₂}
 use mathlib.Core.List.{[], _∷_}
 use Prim.Native.Nat.{ℕ, _+_, _*_, _<_, _≤_}
 use native.Mathlib.Omega.{arith}
@@ -17,12 +18,12 @@ use lib.IntN.{ℤ, pos, natAbs, _+ℤ_, _-ℤ_, _*ℤ_}
 use lib.Signed.{_≤ℤ_, yes-nonNeg, pos-natAbs}
 use Rattle.integers.specs.Units.{fullGrey}
 use Rattle.integers.specs.Ring.{read, ring}
-use Rattle.integers.specs.Order.{≤ℤ-scale, pos-≤ℤ, ≤-of-pos, nonneg}
+use Rattle.integers.specs.Order.{≤ℤ-mul, ≤ℤ-scale, pos-≤ℤ, ≤-of-pos, nonneg}
 use Rattle.integers.specs.Linear.{le, eq, _&_, linear, lin≤, lin<}
 use Rattle.integers.specs.Within.{Within, bounds, within-self}
 use Rattle.integers.specs.Clamp.{clamp, clamp-low, clamp-high, clamp-inside, clamp-mono, clamp-moves}
 use Rattle.integers.specs.Rounding.{roundHalfUp}
-use Rattle.integers.specs.RoundHalfUp.{roundHalfUp-of-bounds, roundHalfUp-mono, roundHalfUp-mul, roundHalfUp-one-apart}
+use Rattle.integers.specs.RoundHalfUp.{UpBounds, roundHalfUp-bounds, roundHalfUp-of-bounds, roundHalfUp-mono, roundHalfUp-mul, roundHalfUp-one-apart}
 use Rattle.haar.specs.Greys.{full, inkGrey, OneApart}
 
 pub full-pos : {side : ℕ} → 0 < side → 0 < full side
@@ -76,6 +77,22 @@ ink-one-apart {side} s a b {d} {e} g h w = record {
   up = one-up s a b g h (w .high);
   down = one-up s b a h g (lin≤ (a ∷ b ∷ pos d ∷ pos e ∷ pos side ∷ []) (le (w .low)) (search linear depth 40) tt);
 }
+
+-- ---- the nearest: where nothing is held
+pub ink-nearest : {side den : ℕ} {num : ℤ} → 0 < side → 0 < den → pos 0 ≤ℤ num → num ≤ℤ pos (full side * den)
+    → UpBounds (pos fullGrey *ℤ num) (pos (full side * den)) (pos (inkGrey side num den))
+ink-nearest {side} {den} {num} s g low high =
+    let d : 0 < full side * den = mul-pos (full-pos s) g in
+    let from : pos 0 ≤ℤ rounded side num den =
+    subst (λ z. z ≤ℤ rounded side num den) (roundHalfUp-mul (pos 0) d)
+    (roundHalfUp-mono (pos 0 *ℤ pos (full side * den)) (pos fullGrey *ℤ num) d d
+    (lin≤ (num ∷ pos (full side * den) ∷ []) (le (≤ℤ-mul low (nonneg (full side * den)))) (search linear depth 40) tt)) in
+    let to : rounded side num den ≤ℤ pos fullGrey =
+    subst (λ z. rounded side num den ≤ℤ z) (roundHalfUp-mul (pos fullGrey) d)
+    (roundHalfUp-mono (pos fullGrey *ℤ num) (pos fullGrey *ℤ pos (full side * den)) d d
+    (lin≤ (num ∷ pos (full side * den) ∷ []) (le (≤ℤ-mul high (nonneg (full side * den)))) (search linear depth 40) tt)) in
+    subst⁻¹ (UpBounds (pos fullGrey *ℤ num) (pos (full side * den))) (ink-clamp side num den ∙ clamp-inside from to)
+    (roundHalfUp-bounds (pos fullGrey *ℤ num) d)
 
 -- ---- known greys
 pub ink-whole : {side : ℕ} (n : ℕ) → 0 < side → n ≤ fullGrey → inkGrey side (pos (n * full side)) fullGrey ≡ n

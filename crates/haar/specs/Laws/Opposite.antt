@@ -14,7 +14,7 @@ use lib.ListN.{getD, length-map, List·getD-map}
 use lib.IntN.{ℤ, pos, negsuc, negℤ, _+ℤ_, _*ℤ_}
 use Rattle.integers.specs.Ring.{read, ring}
 use Rattle.haar.specs.Cells.{children, Cell, cellAt}
-use Rattle.haar.specs.Table.{Coefficients, index, stored}
+use Rattle.haar.specs.Table.{Coefficients, index, stored, negated}
 use Rattle.haar.specs.Figures.{figure}
 use Rattle.haar.specs.Pictures.{tabulate, picture}
 use Rattle.haar.specs.Greys.{greyOf}
@@ -51,11 +51,10 @@ module _ (n : ℕ) (l : List ℤ) where
   greys-opposite side level = picture-opposite (greyOf side) level ∙ ap (λ g. picture n g (stored n l) level) (fun-ext λ f. grey-neg side f 1)
 
 pub entries-opposite : (n depth : ℕ) (t : Coefficients n)
-    → entries n depth (record { root = negℤ (t .root); detail = λ j cell e. negℤ (t .detail j cell e) }) ≡ map negℤ (entries n depth t)
+    → entries n depth (negated t) ≡ map negℤ (entries n depth t)
 entries-opposite n depth t =
     let l = entries n depth t in
-    sym (entries-unique n depth (record { root = negℤ (t .root); detail = λ j cell e. negℤ (t .detail j cell e) }) (map negℤ l)
-    (length-map l negℤ ∙ entries-length n depth t) (record {
+    sym (entries-unique n depth (negated t) (map negℤ l) (length-map l negℤ ∙ entries-length n depth t) (record {
       same-root = entry-opposite l 0 ∙ ap negℤ (entries-root n depth t);
       same-detail = λ j h cell b e f g.
           entry-opposite l (index n j cell e) ∙ ap negℤ (entries-detail t h (record { inside = b; first = f; last = g }));

@@ -3,22 +3,18 @@ use mathlib.Core.Path.{_≡_, sym, _∙_, ap}
 use Prim.Native.Nat.{_^_, _≤_}
 use native.Mathlib.Omega.{arith}
 use lib.Pow.{pow-pos}
-use lib.IntN.{pos, natAbs}
+use lib.IntN.{natAbs}
 use mir.Facts.{toZ-ofZ}
 use borrow.Author.Needs.{needs}
-use Rattle.integers.specs.Order.{pos-≤ℤ}
-use Rattle.haar.specs.Greys.{full, greyOf, inkGrey}
-use Rattle.haar.specs.Laws.InkGreys.{ink-full}
-use Rattle.haar.specs.Laws.Greys.{grey-byte, grey-magnitude}
+use Rattle.haar.specs.Greys.{full}
+use Rattle.haar.specs.Laws.Greys.{grey-byte, grey-magnitude, grey-full}
 use Rattle.haar.proofs.grey.Numbers.{full-shift, full-most, grey-quotient}
 use Rattle.haar.proofs.grey.grey_of.Statement.{statement}
 use Rattle.haar.proofs.grey.grey_of.Tie as tie
 
 -- what is compared and divided is the figure's magnitude
-by-magnitude : (c : tie.After-magnitude) → greyOf (2 ^ c .before .args .depth) (c .before .args .figure) ≡ inkGrey (2 ^ c .before .args .depth) (pos (c .magnitude .result)) 1
-by-magnitude c =
-    grey-magnitude (2 ^ c .before .args .depth) (c .before .args .figure) (c .magnitude .result)
-    (c .magnitude .ensures ∙ ap natAbs (toZ-ofZ (c .before .fits .figure)))
+magnitude-is : (c : tie.After-magnitude) → c .magnitude .result ≡ natAbs (c .before .args .figure)
+magnitude-is c = c .magnitude .ensures ∙ ap natAbs (toZ-ofZ (c .before .fits .figure))
 
 -- ---- the full figure or more
 returns : tie.Need-returns
@@ -27,8 +23,8 @@ returns c =
     let depth = m .before .args .depth in
     let e = full-shift depth in
     let b = full-most (m .before .pre) in
-    let h : full (2 ^ depth) ≤ m .magnitude .result = omega arith in
-    sym (by-magnitude m ∙ ink-full (pow-pos depth) (pos-≤ℤ h))
+    let h : full (2 ^ depth) ≤ natAbs (m .before .args .figure) = omega (arith, magnitude-is m) in
+    sym (grey-full (m .before .args .figure) (pow-pos depth) h)
 
 -- ---- short of it
 mul-result : tie.Need-mul-result
@@ -43,7 +39,7 @@ returns-2 c =
     let depth = m .before .args .depth in
     let e = full-shift depth in
     let b = full-most (m .before .pre) in
-    grey-quotient _ _ e (pow-pos depth) (omega arith) (omega arith) ∙ sym (by-magnitude m)
+    grey-quotient _ _ e (pow-pos depth) (omega arith) (omega arith) ∙ sym (grey-magnitude (2 ^ depth) (m .before .args .figure) (m .magnitude .result) (magnitude-is m))
 
 -- what is cast is that grey, so a byte
 cast-result-2 : tie.Need-cast-result-2
