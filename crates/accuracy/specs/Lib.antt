@@ -1,6 +1,6 @@
 -- From an outline to how near its figures and greys are to its exact areas. Read in this order. What is cited of the crates below is defined in Walk,
--- Integrals, Rounded and Octilinear of `edge`; Cells, Signs, Table, Figures, Pictures, Greys and Plane of `haar`; Fraction, Rounding, ListSum, HalfSign,
--- Magnitude and Units of `integers`.
+-- Integrals, Rounded and Octilinear of `edge`; Cells, Signs, Table, Figures, Pictures, Greys and Plane of `haar`; Fraction, Rounding, Clamp,
+-- ListSum, HalfSign, Magnitude and Units of `integers`.
 
 -- ---- what is spoken of
 -- points, contours, edges

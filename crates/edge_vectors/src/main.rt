@@ -1,10 +1,7 @@
 // Runs the code of `edge` as it is compiled. A case is a line of standard input: an edge, and a cell by its left and top side and half its width. For
 // each it prints h, v and d, rounded, and `in` where some part of the edge lies strictly inside the cell, else `out`; or `out of range`.
 //
-// `stdin` has the cases, each kind under a comment, and `stdout` what must be printed, as `answers` of rust/ makes it from 01 alone. Before there was
-// that program, the same was worked out another way again, in exact fractions: the edge is a curve over s from 0 to 1, cut where it crosses a side or a middle of the cell. Between two cuts what 01 integrates is linear
-// in s, and its antiderivative gives the integral. Of the sums the nearest whole number was taken, and of two the one of larger magnitude. The edge lies
-// inside where the middle of some part between two cuts does.
+// `stdin` has the cases, each kind under a comment, and `stdout` what must be printed, as `answers` of rust/ makes it.
 ghost use lib.IntN.{pos};
 ghost use Rattle.integers.specs.Within.{Within};
 ghost use Rattle.edge.specs.Room.{coordinateLimit, Room};

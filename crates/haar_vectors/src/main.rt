@@ -3,9 +3,7 @@
 // level of more than 64 cells, a checksum of each. Where it asks for one cell of the last table, that cell's figure and grey. A line that is not well
 // formed, or has a number out of range, is refused.
 //
-// `stdout` has what must be printed, as `answers` of rust/ makes it from 01 and 02 alone. Before there was that program, the same figures were worked out
-// in exact fractions, as one sum over the levels above the cell, by the halves in which the cell lies, and again as 4^L times the area that solves 01's
-// equations for h, v and d from the root down.
+// `stdout` has what must be printed, as `answers` of rust/ makes it.
 use libc::STDIN_FILENO;
 
 mod read;

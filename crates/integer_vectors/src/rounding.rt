@@ -1,6 +1,5 @@
 // Quotients, rounded: each answer of `div_round_half_away` on a line. What must be printed is made by `answers` of rust/, where
-// these numbers stand a second time. It was first worked out another way: in exact fractions, of the two whole numbers around n / d the one at the
-// smaller distance, and at equal distances the one of larger magnitude.
+// these numbers stand a second time.
 use integers::div_round_half_away;
 use vector_print::decimal;
 use vector_print::words;

@@ -3,11 +3,11 @@
 -- Definitions
 --   View                         a picture of a level
 --   Slant                        an edge's exact h, and what it is rounded to
---   Letter                       an outline of one contour, and what 01 gives of it: its table, some pictures of figures and of greys, a slanted edge's h
+--   Letter                       an outline of one contour, and what the papers give of it: its table, some pictures of figures and of greys, a slanted edge's h
 --   counts l                     its one count: a contour through all of its points
 --   FiguresAre, GreysAre         what is drawn of the letter's table at a level is this picture
 --   SlantIs                      the edge's h in the tile is this
---   Holds l                      building and drawing it gives what 01 gives
+--   Holds l                      building and drawing it gives what the papers give
 --   letterA .. letterH, letters  the eight of them
 --
 -- Main results

@@ -2,9 +2,9 @@
 --
 -- What is cited of the crates below is defined in their files of definitions. The trail of an entry: Outline, OutlineTable and Tile of `accuracy`,
 -- then Rounded, Integrals and Walk of `edge`, with Clamp, Tent, Trapezoid and Rounding of `integers`. Of an exact area: ExactArea of `accuracy`, then
--- Integrals of `edge`, with Fraction of `integers`. Of a figure and a grey: Plane, Figures, Signs, Table, Entries, Pictures and Greys of `haar`. The
--- numbers of 01 and 02 are in Units of `integers`; where a placement takes a point is in Parts and Placed of `placement`; a table with something added is
--- in Added of `rasterize`. The words of the three demands are in docs/ARCHITECTURE.md.
+-- Integrals of `edge`, with Fraction of `integers`. Of a figure and a grey: Plane, Figures, Signs, Table, Entries, Pictures and Greys of `haar`, with
+-- Magnitude, Clamp and Rounding of `integers`. The numbers of 01 and 02 are in Units of `integers`; where a placement takes a point is in Parts and Placed
+-- of `placement`; a table with something added is in Added of `rasterize`. The words of the three demands are in docs/ARCHITECTURE.md.
 
 -- ---- the calls
 -- the questions, and the order in which each call asks them

@@ -2,7 +2,7 @@
  *
  * A tile is a square of 1, 2, 4, 8, 16, 32 or 64 pixels a side; a step is 1/256 pixel; x grows to the right, y downwards. An outline is
  * closed contours of whole points, letters clockwise as seen on the page, the holes in them anticlockwise, or all of it the other way round:
- * figures are then negative, and greys, which are those of magnitudes, the same. Building turns it into a table of Haar coefficients, from
+ * every figure then has the opposite sign, and every grey is the same. Building turns it into a table of Haar coefficients, from
  * which pictures are drawn at full size (the deepest level, 6 for side 64) and at every halving, down to level 0.
  *
  * A table with a record of its edge count is a tile, into which single contours are put and out of which they are taken again. As long as each
@@ -82,7 +82,7 @@ uint32_t mattuliyan_figures(uint32_t side, uint32_t level, const int64_t *table,
                             size_t picture_length);
 
 /* Draws the greys of a level, row by row from the top left: 0 is bare paper, 255 full ink. A grey is 255 x |figure| / (131,072 x side x
- * side), to the nearest, halves up, and at most 255. (So where contours of opposite directions share a pixel, their ink cancels.) */
+ * side), to the nearest, halves up, and at most 255. Where contours of opposite directions share a pixel, they cancel. */
 uint32_t mattuliyan_greys(uint32_t side, uint32_t level, const int64_t *table, size_t table_length, uint8_t *picture,
                           size_t picture_length);
 

@@ -11,9 +11,7 @@
 // 64 numbers a checksum. `a` says whether each cell that is asked for alone is as in the picture. A number that is out of range is taken for the
 // greatest or the least one, and any other letter is refused.
 //
-// `stdout` has what must be printed, as `answers` of rust/ makes it from 01 and 02 alone. Before there was that program, the same tables and figures were
-// worked out in exact fractions, an edge's values in a cell both by parts, cut where the edge crosses a side or a middle, and by the antiderivative of
-// the distance to the nearer side. What came out was held to demand 3, with the exact areas of the cells from 01's sentence that has no wavelets.
+// `stdout` has what must be printed, as `answers` of rust/ makes it.
 use libc::STDIN_FILENO;
 
 mod calls;

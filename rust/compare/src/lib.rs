@@ -55,8 +55,8 @@ pub struct Seen {
     /// those of the cells that are not white though their figure is below zero
     pub inked_below_zero: u64,
     /// outlines, not placed ones, with such a cell in their deepest level, and of these the ones with ink of both signs there
-    pub wrong_handed: u64,
-    pub mixed_handed: u64,
+    pub with_ink_below_zero: u64,
+    pub with_ink_of_both_signs: u64,
     pub calls: u64,
     /// calls by the number that was answered
     pub answered: [u64; ANSWERS],
@@ -79,8 +79,8 @@ impl Tally for Seen {
         self.cells += other.cells;
         self.greys_one_apart += other.greys_one_apart;
         self.inked_below_zero += other.inked_below_zero;
-        self.wrong_handed += other.wrong_handed;
-        self.mixed_handed += other.mixed_handed;
+        self.with_ink_below_zero += other.with_ink_below_zero;
+        self.with_ink_of_both_signs += other.with_ink_of_both_signs;
         self.calls += other.calls;
         self.answered.iter_mut().zip(other.answered).for_each(|(mine, more)| *mine += more);
         self.consider(other.worst);
@@ -117,8 +117,8 @@ impl std::fmt::Display for Seen {
             "{} outlines ({} octilinear, {} with ink below zero, {} of these with ink above it too) with {} edges, {} placed outlines, {} cells ({} with ink below zero), {} greys one apart; {} calls, {} refused; worst miss ",
             grouped(self.outlines),
             grouped(self.octilinear),
-            grouped(self.wrong_handed),
-            grouped(self.mixed_handed),
+            grouped(self.with_ink_below_zero),
+            grouped(self.with_ink_of_both_signs),
             grouped(self.edges),
             grouped(self.placed.iter().sum()),
             grouped(self.cells),
@@ -181,8 +181,8 @@ pub fn from_outline_to_pictures(
         let (figures, greys) = pictures(rules, random, side, level, &table, seen)?;
         let [above, below] = hold_to_demand3(rules, outline, level, area, &figures, &greys, seen)?;
         if level == outline.depth() {
-            seen.wrong_handed += (below > 0) as u64;
-            seen.mixed_handed += (above > 0 && below > 0) as u64;
+            seen.with_ink_below_zero += (below > 0) as u64;
+            seen.with_ink_of_both_signs += (above > 0 && below > 0) as u64;
         }
         cells_alone(rules, random, side, level, &table, &figures, seen)?;
     }

@@ -359,7 +359,7 @@ mod tests {
         );
     }
 
-    /// The first and last of some numbers in their order.
+    /// The least and the greatest of some numbers.
     fn ends(numbers: impl Iterator<Item = i64> + Clone) -> (i64, i64) {
         (numbers.clone().min().unwrap(), numbers.max().unwrap())
     }

@@ -16,6 +16,10 @@ fn library_and_reference_agree() {
     assert!(numbers.map(|number| seen.answered[number]).all(|times| times > 500), "answered: {:?}", seen.answered);
     assert!(seen.placed.iter().all(|&outlines| outlines > CASES / 10), "placed: {:?}", seen.placed);
     assert!(seen.octilinear > CASES / 20 && seen.empty > CASES / 400);
-    assert!(seen.wrong_handed > CASES / 3 && seen.mixed_handed > CASES / 5 && seen.inked_below_zero > seen.cells / 20);
+    assert!(
+        seen.with_ink_below_zero > CASES / 3
+            && seen.with_ink_of_both_signs > CASES / 5
+            && seen.inked_below_zero > seen.cells / 20
+    );
     assert!(seen.largest.iter().all(|&outlines| outlines > 10), "with the most edges: {:?}", seen.largest);
 }

@@ -100,6 +100,7 @@ fn page_of_a_letter_traced_anticlockwise() {
     // Each area is the opposite, drawn or exact, and each grey the same.
     let (rows, opposite) = (cells(&clockwise), cells(&anticlockwise));
     assert_eq!((rows.len(), opposite.len()), (16, 16));
+    assert!(rows.iter().any(|row| row[3].starts_with('-')) && opposite.iter().any(|row| !row[3].starts_with('-')));
     let number = |word: &str| word.parse::<f64>().unwrap();
     for (row, opposite) in rows.iter().zip(&opposite) {
         assert_eq!([number(row[2]), number(row[3])], [-number(opposite[2]), -number(opposite[3])]);

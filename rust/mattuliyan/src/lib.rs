@@ -2,7 +2,7 @@
 //!
 //! A tile is a square of 1, 2, 4, 8, 16, 32 or 64 pixels a side, a step is 1/256 pixel, x grows to the right and y downwards. An outline is
 //! closed contours of whole points, letters clockwise as seen on the page, the holes in them anticlockwise, or all of it the other way round:
-//! figures are then negative, and greys the same. [`build`] turns it into a table of Haar coefficients, from which [`figures`], [`greys`] and
+//! every figure then has the opposite sign, and every grey is the same. [`build`] turns it into a table of Haar coefficients, from which [`figures`], [`greys`] and
 //! [`cell`] draw any level: 2^level pixels across, from 1 to the side.
 //!
 //! ```
@@ -356,7 +356,7 @@ pub fn figures(side: u32, level: u32, table: &[i64], picture: &mut [i64]) -> Res
 /// Draws the greys of a level, row by row from the top left: 0 is bare paper, 255 full ink.
 ///
 /// A grey is 255 × |figure| / (131,072 × side × side), to the nearest, halves up, and at most 255: a letter may be traced either way round.
-/// Where contours of opposite directions share a pixel, their ink cancels.
+/// Where contours of opposite directions share a pixel, they cancel.
 pub fn greys(side: u32, level: u32, table: &[i64], picture: &mut [u8]) -> Result<(), Refusal> {
     // SAFETY: as in `build`.
     let number =

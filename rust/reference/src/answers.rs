@@ -21,6 +21,9 @@ use std::path::Path;
 /// The command that makes every stored answer anew, given in `rust/`.
 pub const COMMAND: &str = "cargo run --release --bin answers";
 
+/// The depth of a tile of side 64.
+const GREATEST_DEPTH: u32 = 6;
+
 /// A stored file, named from the project's top folder, and what it must hold.
 pub struct Answer {
     /// The file's name, with `/` between folders.

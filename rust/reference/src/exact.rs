@@ -2,7 +2,7 @@
 
 use crate::big::Big;
 use crate::edge::Fraction;
-use crate::rules::{full, held};
+use crate::rules::{held, nearest_of_twice};
 use crate::FULL_GREY;
 use std::cmp::Ordering;
 use std::iter::Sum;
@@ -144,9 +144,7 @@ impl Exact {
 
     /// As `grey`, of the area with its sign, and not yet held.
     pub(crate) fn nearest_grey(&self, side: u32, level: u32) -> i128 {
-        // floor(x / full + 1/2) = floor(floor(2x + full) / (2 full)).
-        let twice = self.times(2 * i128::from(FULL_GREY) * power(level));
-        (twice.floor() + full(side)).div_euclid(2 * full(side))
+        nearest_of_twice(self.times(2 * i128::from(FULL_GREY) * power(level)).floor(), side)
     }
 
     /// How far it is from 0.

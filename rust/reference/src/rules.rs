@@ -250,7 +250,14 @@ impl Rules for Spec {}
 /// 255 × figure / (131,072 × side × side) to the nearest whole number, halves
 /// up, not yet held between 0 and 255.
 pub(crate) fn nearest_grey(figure: i128, side: u32) -> i128 {
-    (2 * i128::from(FULL_GREY) * figure + full(side)).div_euclid(2 * full(side))
+    nearest_of_twice(2 * i128::from(FULL_GREY) * figure, side)
+}
+
+/// The whole number nearest to x / (131,072 × side × side), halves up, from the
+/// floor of 2 x: with f the full figure it is floor((2 x + f) / 2 f), which does
+/// not see what 2 x has beyond its floor.
+pub(crate) fn nearest_of_twice(twice: i128, side: u32) -> i128 {
+    (twice + full(side)).div_euclid(2 * full(side))
 }
 
 /// The figure of a cell that is full of ink: 131,072 × side × side.

@@ -103,6 +103,17 @@ fn what_is_amiss_is_told() {
     refused(&project, "crates/other/stdout: its program is not known here");
     fs::remove_file(project.join("crates/other/stdout")).unwrap();
 
+    // a stored answer that cannot be read, the last of the programs'
+    let last = project.join("crates/tile_vectors/stdout");
+    fs::remove_file(&last).unwrap();
+    fs::create_dir(&last).unwrap();
+    let output = run(&project);
+    assert_eq!((output.status.code(), text(&output.stdout)), (Some(1), String::new()));
+    assert!(text(&output.stderr).starts_with("crates/tile_vectors/stdout: "), "{}", text(&output.stderr));
+    assert_eq!(fs::read_to_string(&wrong).unwrap(), "");
+    fs::remove_dir(&last).unwrap();
+    fs::copy(top().join("crates/tile_vectors/stdout"), &last).unwrap();
+
     for (name, case) in [
         ("edge_vectors", "0 0 0 0 0 0"),
         ("edge_vectors", "0 0 0 0 0 0 x"),

@@ -17,7 +17,8 @@ fn opposite(numbers: &[i64]) -> Vec<i64> {
     numbers.iter().map(|number| -number).collect()
 }
 
-/// Each grey begins at its first figure, and at minus that, on every side.
+/// Each grey begins at its first figure, and at minus that, on every side. The
+/// only half of a grey that whole units make, 127 1/2, is the first of grey 128.
 #[test]
 fn every_step_either_way() {
     for side in [1, 2, 4, 8, 16, 32, 64] {
@@ -31,16 +32,6 @@ fn every_step_either_way() {
                 assert_eq!(drawn, [grey - 1, grey, grey], "side {side}, sign {sign}");
             }
         }
-    }
-}
-
-/// The only half of a grey that whole units make, 127 1/2, goes up either way.
-#[test]
-fn the_half_goes_up() {
-    for side in [1, 2, 4, 8, 16, 32, 64] {
-        let half = PIXEL * i64::from(side * side) / 2;
-        assert_eq!([Spec.grey(half, side), Spec.grey(-half, side)], [128, 128]);
-        assert_eq!([Spec.grey(half - 1, side), Spec.grey(1 - half, side)], [127, 127]);
     }
 }
 

@@ -7,13 +7,10 @@
 //! not so formed or has a number out of range is refused, and a table that is
 //! refused leaves none.
 
-use super::lines;
+use super::{lines, GREATEST_DEPTH};
 use crate::picture::{cell, figures, greys};
 use crate::questions::Limits;
 use crate::rules::{Rules, Spec};
-
-/// The depth of a tile of side 64.
-const GREATEST_DEPTH: usize = 6;
 
 struct Table {
     depth: u32,
@@ -40,7 +37,7 @@ pub fn answer(cases: &str) -> String {
 
 fn table(words: &[&str]) -> Option<Table> {
     let (depth, words) = words.split_first()?;
-    let depth = place(depth).filter(|&depth| depth <= GREATEST_DEPTH)?;
+    let depth = place(depth).filter(|&depth| depth <= GREATEST_DEPTH as usize)?;
     let mut entries = vec![0; 1 << (2 * depth)];
     let mut next = 0;
     for word in words {

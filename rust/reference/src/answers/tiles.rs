@@ -9,16 +9,13 @@
 //! `a` draws every level of the tile, and says whether each cell asked for alone
 //! is the picture's.
 
-use super::lines;
+use super::{lines, GREATEST_DEPTH};
 use crate::picture::{cell, figures, greys};
 use crate::rules::Spec;
 use crate::table::build;
 
 /// How long each list is: more than any call takes.
 const ROOM: usize = 4100;
-
-/// The depth of a tile of side 64.
-const GREATEST_DEPTH: u32 = 6;
 
 /// A number from here on, either way, is taken for the end of 64 bits.
 const FAR: i128 = 9_223_372_036_854_775_800;

@@ -8,7 +8,7 @@ use std::process::ExitCode;
 const USAGE: &str = "usage: answers [TOP]
 Makes the answers of tests/frames and of the programs in crates anew, in the project whose top folder is TOP, this one if
 left out, and writes and names those that change. Where a file cannot be read, or an answer has nothing that it answers,
-it says so and writes none, with status 1.";
+it says so and writes none, with status 1; so is the status where a file cannot be written.";
 
 fn main() -> ExitCode {
     let words: Vec<String> = std::env::args().skip(1).collect();
@@ -31,14 +31,17 @@ fn main() -> ExitCode {
 
 fn rewrite(top: &Path) -> Result<(), String> {
     let answers = answers::all(top)?;
-    let mut rewritten = 0;
+    // All are compared before any is written.
+    let mut changed = Vec::new();
     for answer in &answers {
         if answer.difference(top)?.is_some() {
-            answer.store(top)?;
-            println!("{}", answer.name);
-            rewritten += 1;
+            changed.push(answer);
         }
     }
-    println!("answers: {} files, {rewritten} rewritten", answers.len());
+    for answer in &changed {
+        answer.store(top)?;
+        println!("{}", answer.name);
+    }
+    println!("answers: {} files, {} rewritten", answers.len(), changed.len());
     Ok(())
 }
