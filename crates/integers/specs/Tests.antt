@@ -11,7 +11,7 @@
 --   one-of-means                                    n is an element of l
 --   no-means                                        false exactly where the proposition does not hold
 --   same-means                                      two tests of one proposition are the same
---   within-neg-same                                 −z is from −b to b where z is
+--   within-neg-same                                 −z is from −b to b exactly where z is
 use mathlib.Core.Path.{_≡_, refl, sym}
 use mathlib.Core.List.{List, [], _∷_}
 use mathlib.Core.Logic.{_↔_, _⊎_, inl, inr, ⊎-elim}

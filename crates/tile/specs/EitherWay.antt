@@ -17,16 +17,18 @@
 -- Main results, of an outline
 --   reversed-edges               edges that are reversed, in whatever order, have the opposite table
 --   reversed-twice               twice reversed, an outline is as it was, where it has as many points as its counts say
---   reversed-accepted,
---   reversed-table, reversed-greys,
---   reversed-figures, reversed-cell       where building accepts it: the reverse is accepted, and what is drawn of it
+--   reversed-accepted            where building accepts it, it accepts the reverse, over any table of side × side entries
+--   reversed-table               and leaves the opposite table
+--   reversed-greys               every grey is the same, at every level
+--   reversed-figures             where a picture is not refused, its figures are opposite
+--   reversed-cell                and so is one cell's figure
 --   reversed-placed-accepted,
 --   reversed-placed-table,
 --   reversed-placed-greys        the same with a placement
 --   accepted-either-way,
 --   placed-either-way            so an outline that has as many points as its counts say is accepted exactly where its reverse is
---   a-reversed, g-reversed       01's letters B and H are so reversed
---   c-reversed-grey              half a pixel is grey 128 either way
+--   a-reversed, g-reversed       01's letters B and H are A and G so reversed
+--   c-opposite-grey              C's table with every sign turned has the grey 128, as C's has
 use mathlib.Core.Path.{_≡_, refl, sym, _∙_, ap, ap₂, fun-ext, subst}
 use mathlib.Core.Logic.{_↔_}
 use mathlib.Core.Bool.{not, _&&_, _||_}
@@ -134,7 +136,7 @@ module _ (points : List ℤ) (counts : List ℕ) (long : length points ≡ 2 * e
   pub reversed-twice : reversed (reversed points counts) counts ≡ points
   reversed-twice = ap (λ ds. coordinates (map reverse ds)) read-back ∙ ap coordinates (reverse-twice cs) ∙ same-points
 
-  pub tableOf-reversed : (side : ℕ) → tableOf side (reversed points counts) counts ≡ opposite (tableOf side points counts)
+  tableOf-reversed : (side : ℕ) → tableOf side (reversed points counts) counts ≡ opposite (tableOf side points counts)
   tableOf-reversed side = ap (λ ds. edgesTable side (outlineEdges ds)) read-back ∙ reversed-edges side (outlineEdges cs) (outlineEdges-reverse cs)
 
   -- what goes from an outline to its reverse goes back as well
@@ -246,6 +248,6 @@ unfolding contoursOf pointsOf coordinates coordinatesOf
 g-reversed = refl
 
 -- C is half a pixel, 127 1/2 greys, the one half that a whole figure comes to. Had the quotient been rounded and not its magnitude, this would be 127.
-pub c-reversed-grey : pictureIn (greyOf 1) (opposite (letterC .table)) 0 ≡ 128 ∷ []
+pub c-opposite-grey : pictureIn (greyOf 1) (opposite (letterC .table)) 0 ≡ 128 ∷ []
 unfolding computedPicture
-c-reversed-grey = refl
+c-opposite-grey = refl

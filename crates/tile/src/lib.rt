@@ -377,8 +377,8 @@ pub fn figures(side: u32, level: u32, table: &[i64], picture: &mut [i64]) -> u32
     number
 }
 
-// Draws the greys of a level, which are those of the figures' magnitudes. The answer is 0, and the picture has them row by row, whatever it held before. Or it is the number of the first
-// question that is answered no, and the picture is as it was.
+// Draws the greys of a level, which are those of the figures' magnitudes. The answer is 0, and the picture has them row by row, whatever it held
+// before. Or it is the number of the first question that is answered no, and the picture is as it was.
 pub fn greys(side: u32, level: u32, table: &[i64], picture: &mut [u8]) -> u32
     ensures { λ r. ⌜ r ≡ drawRefusal side level (now (table .entry)) (length (now (picture .entry))) ⌝ }
     ensures { λ _. ⌜ now (picture .exit) ≡ greysPicture side level (now (table .entry)) (now (picture .entry)) ⌝ }

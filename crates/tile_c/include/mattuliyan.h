@@ -82,7 +82,7 @@ uint32_t mattuliyan_figures(uint32_t side, uint32_t level, const int64_t *table,
                             size_t picture_length);
 
 /* Draws the greys of a level, row by row from the top left: 0 is bare paper, 255 full ink. A grey is 255 x |figure| / (131,072 x side x
- * side), to the nearest, halves up, and at most 255. Where contours of opposite directions share a pixel, they cancel. */
+ * side), to the nearest whole number, halves up, and at most 255. Where contours of opposite directions share a pixel, they cancel. */
 uint32_t mattuliyan_greys(uint32_t side, uint32_t level, const int64_t *table, size_t table_length, uint8_t *picture,
                           size_t picture_length);
 

@@ -81,7 +81,7 @@ fn greys_two_apart_are_caught() {
     assert!(demand3::near(&outline, 1, area, &figures, &greys).is_err());
 }
 
-/// 01's letter D run the other way: demand 3 wants the grey of the magnitude, of what is drawn and of the exact area.
+/// 01's letter D, and the same run the other way: demand 3 wants the grey of the magnitude, of what is drawn and of the exact area.
 #[test]
 fn white_below_zero_is_caught() {
     let exact_white = &reference::wrong::ExactBelowZeroWhite;
@@ -92,7 +92,7 @@ fn white_below_zero_is_caught() {
         let (figures, ink, white) = ([4 * area, 0, 0, 0], [255, 0, 0, 0], [0; 4]);
         let near = |rules: &dyn Rules, greys| demand3::near_by(rules, &outline, 1, area, &figures, greys).is_ok();
         assert_eq!((near(&Spec, &ink), near(&Spec, &white)), (true, false));
-        // a demand 3 that is wrong itself tells the two apart only clockwise
+        // a demand 3 that is wrong itself takes the one for the other where the letter goes anticlockwise
         assert_eq!((near(exact_white, &ink), near(exact_white, &white)), (area > 0, area < 0));
     }
 }

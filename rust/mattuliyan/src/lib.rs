@@ -355,7 +355,8 @@ pub fn figures(side: u32, level: u32, table: &[i64], picture: &mut [i64]) -> Res
 
 /// Draws the greys of a level, row by row from the top left: 0 is bare paper, 255 full ink.
 ///
-/// A grey is 255 × |figure| / (131,072 × side × side), to the nearest, halves up, and at most 255: a letter may be traced either way round.
+/// A grey is 255 × |figure| / (131,072 × side × side), to the nearest whole number, halves up, and at most 255: a letter may be traced
+/// either way round.
 /// Where contours of opposite directions share a pixel, they cancel.
 pub fn greys(side: u32, level: u32, table: &[i64], picture: &mut [u8]) -> Result<(), Refusal> {
     // SAFETY: as in `build`.

@@ -48,8 +48,8 @@ fn ends_of_64_bits() {
     }
 }
 
-/// What the two sets of greys below have that makes the laws say something:
-/// greys between white and full, of figures below zero.
+/// How many greys there are for which the two laws below say something: between
+/// white and full, of figures below zero.
 fn shades(figures: &[i64], greys: &[u8]) -> usize {
     figures.iter().zip(greys).filter(|(&figure, grey)| figure < 0 && (1..=254).contains(*grey)).count()
 }

@@ -150,7 +150,8 @@ fn magnitudes_drawn() {
     assert_eq!((table(&MagnitudesDrawn, &H), grey(&MagnitudesDrawn, -131_072)), (h, 255));
 }
 
-/// The quarters of a cell below zero come out too high, and so do their greys.
+/// The quarters of a cell below zero come out too high, and their greys are
+/// wrong: too pale where the ink is, and grey where there is none.
 #[test]
 fn magnitude_handed_on() {
     let h = table(&Spec, &H);

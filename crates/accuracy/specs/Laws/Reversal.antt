@@ -6,7 +6,7 @@
 --   contourEdges-reverse         a contour's points backwards: its edges reversed, in another order
 --   outlineEdges-reverse         the same of every contour of an outline
 --   reversed-edges-table         edges that are reversed, in whatever order, have the opposite table
---   outline-reversed             so has the outline so walked
+--   outline-reversed             an outline with every contour walked the other way has the opposite table
 use mathlib.Core.Path.{_≡_, refl, _∙_, ap, ap₂, fun-ext}
 use mathlib.Core.List.{List, [], _∷_, _++_, map, map-append, reverse as backwards, reverse-cons}
 use mathlib.Core.List.{Perm, Perm·nil, Perm·refl, Perm·cons, Perm·swap, Perm·trans, Perm·symm, Perm·append}

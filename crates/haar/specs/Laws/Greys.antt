@@ -5,7 +5,7 @@
 --   grey-neg                     −num / den has the grey of num / den
 --   grey-byte                    a grey is at most 255
 --   greys-one-apart              fractions at most a 255th of the full figure apart have greys at most one apart
---   grey-nearest                 up to the full figure it is the whole number nearest to the magnitude's 255ths of it, halves up
+--   grey-nearest                 up to the full figure a grey is how many 255ths of it the magnitude is, to the nearest whole number, halves up
 --   grey-half, grey-half-below   n 255ths of it and a half have the grey n + 1, up to 255; below zero too: the magnitude is rounded, and not the fraction
 --   grey-magnitude               a figure's grey is 01's, of its magnitude
 --   grey-full                    a figure of the full figure's magnitude or more has the full grey

@@ -1,12 +1,12 @@
 -- A table with every entry of the opposite sign, as that of a letter traced the other way round: its figures are opposite, and its greys the same.
 --
 -- Main results
---   entry-opposite               an entry of it
---   figure-opposite              a figure of it
---   picture-opposite             a picture, which is made of the opposite figures
+--   entry-opposite               each entry is opposite
+--   figure-opposite              each figure is opposite
+--   picture-opposite             what is made of each figure is made of the opposite one
 --   figures-opposite             a picture of figures is opposite
 --   greys-opposite               a picture of greys is the same
---   entries-opposite             the entries of opposite coefficients
+--   entries-opposite             opposite coefficients have opposite entries
 use mathlib.Core.Path.{_≡_, sym, _∙_, ap, ap₂, fun-ext}
 use mathlib.Core.List.{List, [], _∷_, map}
 use Prim.Native.Nat.{ℕ, _^_}

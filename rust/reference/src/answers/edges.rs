@@ -1,7 +1,8 @@
 //! `edge_vectors`: an edge's values in a cell. A case is seven numbers, the
 //! edge's x0, y0, x1 and y1, the cell's left and upper side and half its width.
 //! Its answer is h, v and d, rounded, and `in` where the edge comes inside the
-//! cell, else `out`.
+//! cell, else `out`; or `out of range`, where the program has no room for the
+//! numbers.
 
 use super::lines;
 use crate::edge::{Cell, Edge};

@@ -45,8 +45,9 @@ const LISTS: [&[i64]; 10] = [
     &[i64::MAX, i64::MIN],
 ];
 
-/// The largest table's entries: a list so long is searched, and what is written
-/// in it one after the other. Each time it is searched anew.
+/// As many numbers as the largest table has entries. A list so long, every number
+/// at the limit, is searched; then each of these is written into it in turn, and
+/// it is searched anew.
 const LONG: usize = 4096;
 const WRITTEN: [(usize, i64); 9] = [
     (4095, ABOVE),
