@@ -16,7 +16,9 @@
 --   opposite-cell                one cell is refused alike, and its figure is opposite
 -- Main results, of an outline
 --   reversed-edges               edges that are reversed, in whatever order, have the opposite table
---   reversed-twice               twice reversed, an outline is as it was, where it has as many points as its counts say
+--   reversed-length, tableOf-reversed,
+--   reversed-twice               where an outline has as many points as its counts say, its reverse has as many, and the opposite table; twice reversed, it is
+--                                as it was
 --   reversed-accepted            where building accepts it, it accepts the reverse, over any table of side × side entries
 --   reversed-table               and leaves the opposite table
 --   reversed-greys               every grey is the same, at every level
@@ -64,7 +66,7 @@ use Rattle.tile.specs.Letters.{letterA, letterB, letterC, letterG, lette
 use Rattle.tile.specs.Laws.Accepted.{accepted}
 use Rattle.tile.specs.Laws.BuiltTable.{built-is}
 use Rattle.tile.specs.Laws.Computed.{computedPicture}
-use Rattle.tile.specs.Laws.Written.{contours-back, coordinates-back, contours-edges, written-accepted}
+use Rattle.tile.specs.Laws.Written.{contours-back, coordinates-length, coordinates-back, contours-edges, written-accepted}
 use Rattle.tile.specs.Laws.ReversedContours.{reverse-counts, reverse-twice, reverse-every, reverse-asked, reverse-placed}
 
 abbrev pub reversed : List ℤ → List ℕ → List ℤ
@@ -133,10 +135,13 @@ module _ (points : List ℤ) (counts : List ℕ) (long : length points ≡ 2 * e
   read-back : contoursOf counts (reversed points counts) ≡ map reverse cs
   read-back = ap (λ n. contoursOf n (reversed points counts)) (sym still-counts) ∙ contours-back (map reverse cs)
 
+  pub reversed-length : length (reversed points counts) ≡ 2 * edgeCount counts
+  reversed-length = coordinates-length (map reverse cs) ∙ ap (λ n. 2 * edgeCount n) still-counts
+
   pub reversed-twice : reversed (reversed points counts) counts ≡ points
   reversed-twice = ap (λ ds. coordinates (map reverse ds)) read-back ∙ ap coordinates (reverse-twice cs) ∙ same-points
 
-  tableOf-reversed : (side : ℕ) → tableOf side (reversed points counts) counts ≡ opposite (tableOf side points counts)
+  pub tableOf-reversed : (side : ℕ) → tableOf side (reversed points counts) counts ≡ opposite (tableOf side points counts)
   tableOf-reversed side = ap (λ ds. edgesTable side (outlineEdges ds)) read-back ∙ reversed-edges side (outlineEdges cs) (outlineEdges-reverse cs)
 
   -- what goes from an outline to its reverse goes back as well

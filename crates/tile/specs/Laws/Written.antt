@@ -6,6 +6,7 @@
 --   contours-back                the contours of the outline are those that it was made of
 --   back-points, points-back     points and their coordinates undo each other
 --   coordinatesOf-length         there are two coordinates for each point
+--   coordinates-length           and two for each edge of the outline
 --   coordinates-back             the outline of contours that were read from an outline is that one
 --   contours-edges                its edge count
 --   coordinates-asked            a test of every coordinate is one of every contour
@@ -76,7 +77,7 @@ unfolding tally
 contours-edges [] = refl
 contours-edges (c ∷ cs) = ap (λ n. length c + n) (contours-edges cs)
 
-coordinates-length : (cs : List Contour) → length (coordinates cs) ≡ 2 * edgeCount (countsOf cs)
+pub coordinates-length : (cs : List Contour) → length (coordinates cs) ≡ 2 * edgeCount (countsOf cs)
 unfolding coordinates tally
 coordinates-length [] = refl
 coordinates-length (c ∷ cs) = length-append (coordinatesOf c) (coordinates cs) ∙ omega (arith, coordinatesOf-length c, coordinates-length cs)
