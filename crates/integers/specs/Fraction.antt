@@ -6,8 +6,9 @@
 --   numer-cong, numer-add, numer-scale          linear in f
 --   numer-whole                                 whole numbers add up as whole numbers
 --   numer-append, numer-perm                    of two lists one after the other; the same in any order
+--   common-map, numer-map                       of a list in which each element was made of another
 use mathlib.Core.Path.{_≡_, refl, sym, _∙_, ap, ap₂}
-use mathlib.Core.List.{List, [], _∷_, _++_, Perm, List·Permᴰ, List·Permᴰ·nil, List·Permᴰ·cons, List·Permᴰ·swap, List·Permᴰ·trans}
+use mathlib.Core.List.{List, [], _∷_, _++_, map, Perm, List·Permᴰ, List·Permᴰ·nil, List·Permᴰ·cons, List·Permᴰ·swap, List·Permᴰ·trans}
 use mathlib.Core.Logic.{∥∥₁-elim}
 use Prim.Native.Nat.{ℕ, _*_, _<_}
 use native.Mathlib.Omega.{arith}
@@ -88,3 +89,14 @@ module _ {A : Type 0} (N : A → ℕ) where
 
   pub numer-perm : (f : A → ℤ) {k l : List A} → Perm k l → numer N f k ≡ numer N f l
   numer-perm f {k} {l} p = ∥∥₁-elim p (ℤ-set (numer N f k) (numer N f l)) (λ d. numer-permᴰ f d)
+
+module _ {A B : Type 0} (N : B → ℕ) (g : A → B) where
+  pub common-map : (l : List A) → common N (map g l) ≡ common (λ a. N (g a)) l
+  unfolding common
+  common-map [] = refl
+  common-map (a ∷ l) = ap (λ n. N (g a) * n) (common-map l)
+
+  pub numer-map : (f : B → ℤ) (l : List A) → numer N f (map g l) ≡ numer (λ a. N (g a)) (λ a. f (g a)) l
+  unfolding numer
+  numer-map f [] = refl
+  numer-map f (a ∷ l) = ap₂ (λ n z. f (g a) *ℤ pos n +ℤ pos (N (g a)) *ℤ z) (common-map l) (numer-map f l)

@@ -16,6 +16,7 @@
 --   opposite-cell                one cell is refused alike, and its figure is opposite
 -- Main results, of an outline
 --   reversed-edges               edges that are reversed, in whatever order, have the opposite table
+--   reversed-exact-grey          and the same exact grey in every cell: what a grey is measured by is the same too
 --   reversed-length, tableOf-reversed,
 --   reversed-twice               where an outline has as many points as its counts say, its reverse has as many, and the opposite table; twice reversed, it is
 --                                as it was
@@ -35,30 +36,34 @@ use mathlib.Core.Path.{_≡_, refl, sym, _∙_, ap, ap₂, fun-ext, subst}
 use mathlib.Core.Logic.{_↔_}
 use mathlib.Core.Bool.{not, _&&_, _||_}
 use mathlib.Core.List.{List, [], _∷_, map, reverse, Perm}
-use Prim.Native.Nat.{ℕ, zero, suc, _*_, _≤_}
+use Prim.Native.Nat.{ℕ, zero, suc, _*_, _^_, _≤_}
 use lib.Dec.{eqb}
 use lib.ListN.{length, length-map}
-use lib.IntN.{ℤ, pos, negℤ}
+use lib.IntN.{ℤ, pos, negℤ, _*ℤ_}
 use Rattle.integers.specs.Units.{entryLimit, mostEdges}
+use Rattle.integers.specs.Ring.{read, ring}
 use Rattle.integers.specs.Tests.{every, between, within-neg-same}
 use Rattle.integers.specs.Every.{every-map}
 use Rattle.edge.specs.declared.Edge.{Edge}
 use Rattle.edge.specs.Laws.Reversal.{reverse as reverseEdge}
 use Rattle.haar.specs.Entries.{entries}
-use Rattle.haar.specs.Greys.{greyOf}
+use Rattle.haar.specs.Greys.{grey, greyOf}
 use Rattle.haar.specs.Plane.{dimensions, at, figureIn, pictureIn}
+use Rattle.haar.specs.Laws.Greys.{grey-neg}
 use Rattle.haar.specs.Laws.Opposite.{figure-opposite, figures-opposite, greys-opposite, entries-opposite}
 use Rattle.placement.specs.declared.Placement.{Placement}
 use Rattle.placement.specs.Placed.{placed, isMoving, floatsUsable, isMovable}
 use Rattle.placement.specs.Laws.PlacedPoints.{placed-length}
 use Rattle.accuracy.specs.Outline.{contoursOf, pointsOf, edgeCount, outlineEdges}
+use Rattle.accuracy.specs.ExactArea.{denominator, exactAreaNum}
 use Rattle.accuracy.specs.OutlineTable.{outlineTable}
-use Rattle.accuracy.specs.Laws.Reversal.{outlineEdges-reverse, reversed-edges-table}
+use Rattle.accuracy.specs.Laws.Reversal.{outlineEdges-reverse, reversed-edges-table, denominator-reversed, exactArea-reversed}
 use Rattle.tile.specs.Questions.{Yes, Question, depthOf, question1, question2, question7, question8, question9, question10, question12, firstNo}
 use Rattle.tile.specs.Outcomes.{ifDone, edgesTable, tableOf, buildRefusal, buildTable, placedRefusal, placedTable}
 use Rattle.tile.specs.Outcomes.{drawRefusal, figuresPicture, greysPicture, cellRefusal, cellResult}
 use Rattle.tile.specs.Refusals.{question2-means, placed-refusals}
 use Rattle.tile.specs.DrawnFigures.{figures-drawn}
+use Rattle.tile.specs.Faithful.{figureNum}
 use Rattle.tile.specs.PlacedOutline.{placed-number, placed-as-built}
 use Rattle.tile.specs.Corrections.{Contour}
 use Rattle.tile.specs.Holding.{coordinatesOf, coordinates, countsOf}
@@ -117,6 +122,14 @@ module _ (side : ℕ) (table : List ℤ) where
 pub reversed-edges : (side : ℕ) (es : List Edge) {fs : List Edge} → Perm fs (map reverseEdge es) → edgesTable side fs ≡ opposite (edgesTable side es)
 reversed-edges side es p =
     ap (entries dimensions (depthOf side)) (reversed-edges-table (depthOf side) es p) ∙ entries-opposite dimensions (depthOf side) (outlineTable (depthOf side) es)
+
+pub reversed-exact-grey : (side : ℕ) (es : List Edge) {fs : List Edge} → Perm fs (map reverseEdge es) → (level cx cy : ℕ)
+    → grey side (figureNum side fs level cx cy) (denominator fs) ≡ grey side (figureNum side es level cx cy) (denominator es)
+reversed-exact-grey side es p level cx cy =
+    let area = exactAreaNum (depthOf side) es level (at cx cy) in
+    let out : pos (4 ^ level) *ℤ negℤ area ≡ negℤ (pos (4 ^ level) *ℤ area) = ring (pos (4 ^ level) ∷ area ∷ []) (search read depth 40) tt in
+    ap₂ (grey side) (ap (λ z. pos (4 ^ level) *ℤ z) (exactArea-reversed es p (depthOf side) level (at cx cy)) ∙ out) (denominator-reversed es p)
+    ∙ grey-neg side (figureNum side es level cx cy) (denominator es)
 
 -- ---- an outline and its contours, where question 3 is answered yes
 module _ (points : List ℤ) (counts : List ℕ) (long : length points ≡ 2 * edgeCount counts) where

@@ -1,4 +1,4 @@
--- The reversed outline has the opposite table: with every edge reversed, and with every contour walked the other way.
+-- The reversed outline has the opposite table, and opposite exact areas: with every edge reversed, and with every contour walked the other way.
 --
 -- Main results
 --   outlineTable-reverse         the reversed edges have the opposite table
@@ -6,20 +6,29 @@
 --   contourEdges-reverse         a contour's points backwards: its edges reversed, in another order
 --   outlineEdges-reverse         the same of every contour of an outline
 --   reversed-edges-table         edges that are reversed, in whatever order, have the opposite table
+--   denominator-reversed,
+--   exactArea-reversed           and opposite exact areas, over the same denominator
 --   outline-reversed             an outline with every contour walked the other way has the opposite table
 use mathlib.Core.Path.{_≡_, refl, _∙_, ap, ap₂, fun-ext}
 use mathlib.Core.List.{List, [], _∷_, _++_, map, map-append, reverse as backwards, reverse-cons}
 use mathlib.Core.List.{Perm, Perm·nil, Perm·refl, Perm·cons, Perm·swap, Perm·trans, Perm·symm, Perm·append}
 use Prim.Native.Nat.{ℕ}
-use lib.IntN.{ℤ, negℤ}
+use lib.IntN.{ℤ, negsuc, negℤ, _*ℤ_}
+use Rattle.integers.specs.Ring.{read, ring}
+use Rattle.integers.specs.Fraction.{common, numer, common-perm, common-map, numer-scale, numer-perm, numer-map}
 use Rattle.integers.specs.ListSum.{all-of, total, total-cong, total-neg, total-map}
 use Rattle.edge.specs.declared.Edge.{Edge}
 use Rattle.edge.specs.declared.Cell.{Cell as Square}
+use Rattle.edge.specs.Walk.{steps}
+use Rattle.edge.specs.Integrals.{areaNum}
 use Rattle.edge.specs.Rounded.{details, rootTerm}
-use Rattle.edge.specs.Laws.Reversal.{reverse, details-reverse, root-reverse}
+use Rattle.edge.specs.Laws.Reversal.{reverse, steps-reverse, area-reverse, details-reverse, root-reverse}
+use Rattle.haar.specs.Cells.{Cell}
 use Rattle.haar.specs.Table.{negated}
+use Rattle.haar.specs.Plane.{dimensions}
 use Rattle.accuracy.specs.Outline.{Point, edgeBetween, through, contourEdges, outlineEdges}
 use Rattle.accuracy.specs.Tile.{square}
+use Rattle.accuracy.specs.ExactArea.{denominator, exactAreaNum}
 use Rattle.accuracy.specs.ExactDetails.{numbered}
 use Rattle.accuracy.specs.OutlineTable.{edgeTable, outlineTable}
 use Rattle.accuracy.specs.Laws.Numbered.{numbered-each}
@@ -70,6 +79,20 @@ outlineEdges-reverse (c ∷ cs) =
 
 pub reversed-edges-table : (depth : ℕ) (es : List Edge) {fs : List Edge} → Perm fs (map reverse es) → outlineTable depth fs ≡ negated (outlineTable depth es)
 reversed-edges-table depth es p = outlineTable-perm depth (Perm·symm p) ∙ outlineTable-reverse depth es
+
+module _ (es : List Edge) {fs : List Edge} (p : Perm fs (map reverse es)) where
+  pub denominator-reversed : denominator fs ≡ denominator es
+  denominator-reversed = common-perm steps p ∙ common-map steps reverse es ∙ ap (λ N. common N es) (fun-ext steps-reverse)
+
+  pub exactArea-reversed : (depth level : ℕ) (cell : Cell dimensions) → exactAreaNum depth fs level cell ≡ negℤ (exactAreaNum depth es level cell)
+  exactArea-reversed depth level cell =
+      let part : Edge → ℤ = λ e. areaNum e (square depth level cell) in
+      let back : (e : Edge) → part (reverse e) ≡ negsuc 0 *ℤ part e =
+      λ e. area-reverse e (square depth level cell) ∙ ring (part e ∷ []) (search read depth 40) tt in
+      numer-perm steps part p ∙ numer-map steps reverse part es
+      ∙ ap₂ (λ N f. numer N f es) (fun-ext steps-reverse) (fun-ext back)
+      ∙ numer-scale steps (negsuc 0) part es
+      ∙ ring (exactAreaNum depth es level cell ∷ []) (search read depth 40) tt
 
 pub outline-reversed : (depth : ℕ) (cs : List (List Point))
     → outlineTable depth (outlineEdges (map backwards cs)) ≡ negated (outlineTable depth (outlineEdges cs))
