@@ -1,47 +1,59 @@
--- A frame traced the other way round (02, P4): where the program draws a text, it draws the text with the points of each contour in the reverse order too,
--- and prints the same edge count, the opposite signed area and the same greys.
+-- A frame traced the other way round (02, P4): the text with the points of each contour in the reverse order is a frame's too. The program answers the same
+-- number to both, and where it draws them it prints the same edge count, the opposite signed area and the same greys.
 --
 -- Definitions
 --   reversedFrame f              the frame with each contour's points in the reverse order
--- Main results
---   answered-either-way          its text is not refused
---   printed-either-way           and is printed so
+--   reversedText t               the text of a text's frame, so reversed
+--   areaOf f                     the signed area of a frame's outline
+--   printedWith f area           what is printed of a frame, with an area in the first line
+-- Main results, of a text that is a frame's
+--   read-either-way              the reversed text is that of the reversed frame
+--   number-either-way            both are drawn, or both refused by the same number
+--   printed-either-way           where they are drawn, what is printed of them differs in the area's sign alone
 use mathlib.Core.Path.{_≡_, refl, sym, _∙_, ap, ap₂, subst}
-use mathlib.Core.Bool.{true}
+use mathlib.Core.Bool.{true, _&&_}
 use mathlib.Core.List.{List, [], _∷_, _++_, map}
+use mathlib.Core.Logic.{_↔_}
 use Prim.Native.Nat.{ℕ, _+_, _*_, _^_, _≤_}
 use native.Mathlib.Omega.{arith}
+use lib.Dec.{ltb}
 use lib.ListN.{length, getD, take, drop, length-append, length-drop, length-map}
 use lib.Seq.{length-take-le}
 use lib.IntN.{ℤ, pos, negℤ, natAbs}
-use lib.Signed.{_≤ℤ_}
+use lib.Signed.{leZ}
 use Rattle.integers.specs.Units.{stepsPerPixel, textLimit}
-use Rattle.integers.specs.Order.{nonneg}
-use Rattle.integers.specs.Linear.{le, _&_, linear, lin≤}
-use Rattle.integers.specs.Within.{Within, natAbs-of-within}
-use Rattle.integers.specs.ListSum.{All, all-map, tally}
-use Rattle.integers.specs.Tests.{every, between}
+use Rattle.integers.specs.ListSum.{tally}
+use Rattle.integers.specs.Tests.{between, and-means, every-means, leZ-means, ltb-means}
 use Rattle.haar.specs.Greys.{greyOf}
 use Rattle.haar.specs.Plane.{dimensions, pictureIn}
 use Rattle.haar.specs.Laws.Opposite.{entry-opposite, greys-opposite}
-use Rattle.accuracy.specs.Outline.{contoursOf, edgeCount}
-use Rattle.tile.specs.Questions.{Yes, question6}
-use Rattle.tile.specs.Refusals.{question6-means}
-use Rattle.tile.specs.EitherWay.{reversed, reversed-length, tableOf-reversed}
+use Rattle.haar.specs.Laws.Entries.{entries-root}
+use Rattle.accuracy.specs.Outline.{edgeCount, signedArea}
+use Rattle.accuracy.specs.OutlineTable.{outlineTable}
+use Rattle.tile.specs.Questions.{depthOf, firstNo, question1, question4, question5, question7}
+use Rattle.tile.specs.Outcomes.{edgesOf}
+use Rattle.tile.specs.EitherWay.{opposite, reversed, reversed-length, reversed-every, reversed-edges, reversed-edges-table}
 use Rattle.tile.specs.Laws.IfDone.{if-done}
-use Rattle.tile.specs.Laws.Written.{coordinates-back}
-use Rattle.tile.specs.Laws.ReversedContours.{reverse-every}
 use Rattle.frame.specs.Lines.{lineText}
 use Rattle.frame.specs.Frames.{Frame, frame, headWidth, coordinateWidth, contourText, frameText, Sayable, Writable}
-use Rattle.frame.specs.Reading.{isFrame, frameOf}
+use Rattle.frame.specs.Reading.{isFrame, question11, frameOf}
 use Rattle.frame.specs.OutputLines.{rowsText, summaryText}
-use Rattle.frame.specs.Output.{outlineQuestions, frameQuestions, frameRefusal, frameTable, frameGreys, drawnText, outputText}
+use Rattle.frame.specs.Output.{outlineQuestions, frameRefusal, frameTable, frameGreys, drawnText, outputText}
 use Rattle.frame.specs.RoundTrip.{read-written, written-read}
 use Rattle.frame.specs.Refusals.{frame-refusals}
 use Rattle.frame.specs.Laws.Printing.{line-text-length}
 
 abbrev pub reversedFrame : Frame → Frame
 reversedFrame f = frame (f .side) (f .level) (reversed (f .points) (f .counts)) (f .counts)
+
+abbrev pub reversedText : List ℕ → List ℕ
+reversedText t = frameText (reversedFrame (frameOf t))
+
+abbrev pub areaOf : Frame → ℤ
+areaOf f = signedArea (edgesOf (f .points) (f .counts))
+
+abbrev pub printedWith : Frame → ℤ → List ℕ
+printedWith f area = summaryText (edgeCount (f .counts)) area ++ rowsText (2 ^ f .level) (2 ^ f .level) (frameGreys f)
 
 -- ---- a text is as long as its counts say
 contour-text-length : (counts : List ℕ) (points : List ℤ) → length points ≡ 2 * edgeCount counts
@@ -56,41 +68,36 @@ contour-text-length (n ∷ counts) points e =
     length-append line (contourText counts (drop (2 * n) points))
     ∙ ap₂ _+_ first (contour-text-length counts (drop (2 * n) points) (omega (arith, length-drop (2 * n) points)))
 
--- ---- a text that is drawn, and the same reversed
-module _ (t : List ℕ) (done : frameRefusal t ≡ 0) where
+-- ---- that four digits can say each coordinate is a test of every one
+sayable-means : (z : ℤ) → ((leZ (pos 0) z && ltb (natAbs z) (16 ^ coordinateWidth)) ≡ true) ↔ Sayable z
+sayable-means z =
+    let m = and-means (leZ (pos 0) z) (ltb (natAbs z) (16 ^ coordinateWidth)) (leZ-means (pos 0) z) (ltb-means (natAbs z) (16 ^ coordinateWidth)) in
+    (λ e. record { not-negative = m .0 e .0; four-digits = m .0 e .1 }, λ s. m .1 (s .not-negative, s .four-digits))
+
+-- ---- a text that is a frame's, and the same reversed
+module _ (t : List ℕ) (is : isFrame t ≡ true) where
   abbrev f : Frame
   f = frameOf t
 
-  yes : All Yes (frameQuestions t)
-  yes = frame-refusals t .accepted .0 done
-
   written : Writable f × (frameText f ≡ t) × (length t ≤ textLimit)
-  written = written-read t (yes .0)
+  written = written-read t is
 
   long : length (f .points) ≡ 2 * edgeCount (f .counts)
   long = written .0 .all-points
 
-  yes6 : Yes (question6 (f .side) (reversed (f .points) (f .counts)))
-  yes6 =
-      let on-tile = between (pos 0) (pos (stepsPerPixel * f .side)) in
-      reverse-every on-tile (contoursOf (f .counts) (f .points)) ∙ ap (every on-tile) (coordinates-back (f .counts) (f .points) long .0) ∙ yes .1 .1 .1 .1 .0
-
-  sayable : (z : ℤ) → (pos 0 ≤ℤ z) × (z ≤ℤ pos (stepsPerPixel * f .side)) → Sayable z
-  sayable z h =
-      let w : Within (pos (stepsPerPixel * f .side)) z =
-      record { low = lin≤ (z ∷ pos (f .side) ∷ []) (le (h .0) & le (nonneg (f .side))) (search linear depth 40) tt; high = h .1 } in
-      record { not-negative = h .0; four-digits = omega (arith, natAbs-of-within w, written .0 .side-fits) }
-
   writable : Writable (reversedFrame f)
-  writable = record {
-    side-fits = written .0 .side-fits;
-    level-fits = written .0 .level-fits;
-    points-fit = all-map sayable (reversed (f .points) (f .counts)) (question6-means (f .side) (reversed (f .points) (f .counts)) .0 yes6);
-    some-points = written .0 .some-points;
-    all-points = reversed-length (f .points) (f .counts) long;
-  }
+  writable =
+      let test : ℤ → _ = λ z. leZ (pos 0) z && ltb (natAbs z) (16 ^ coordinateWidth) in
+      record {
+        side-fits = written .0 .side-fits;
+        level-fits = written .0 .level-fits;
+        points-fit = every-means test sayable-means (reversed (f .points) (f .counts)) .0
+            (reversed-every (f .points) (f .counts) long test ∙ every-means test sayable-means (f .points) .1 (written .0 .points-fit));
+        some-points = written .0 .some-points;
+        all-points = reversed-length (f .points) (f .counts) long;
+      }
 
-  same-length : length (frameText (reversedFrame f)) ≡ length t
+  same-length : length (reversedText t) ≡ length t
   same-length =
       let head = lineText headWidth (f .side ∷ f .level ∷ []) in
       length-append head (contourText (f .counts) (reversed (f .points) (f .counts)))
@@ -100,19 +107,34 @@ module _ (t : List ℕ) (done : frameRefusal t ≡ 0) where
       ∙ sym (length-append head (contourText (f .counts) (f .points)))
       ∙ ap length (written .1)
 
-  back : (isFrame (frameText (reversedFrame f)) ≡ true) × (frameOf (frameText (reversedFrame f)) ≡ reversedFrame f)
-  back = read-written (reversedFrame f) writable (subst (λ n. n ≤ textLimit) (sym same-length) (written .2))
+  pub read-either-way : (isFrame (reversedText t) ≡ true) × (frameOf (reversedText t) ≡ reversedFrame f)
+  read-either-way = read-written (reversedFrame f) writable (subst (λ n. n ≤ textLimit) (sym same-length) (written .2))
 
-  pub answered-either-way : frameRefusal (frameText (reversedFrame f)) ≡ 0
-  answered-either-way =
-      frame-refusals (frameText (reversedFrame f)) .accepted .1
-      (back .0, subst (λ g. All Yes (outlineQuestions g)) (sym (back .1)) (yes .1 .0, (yes .1 .1 .0, (yes .1 .1 .1 .0, (yes6, (yes .1 .1 .1 .1 .1 .0, tt))))))
+  pub number-either-way : frameRefusal (reversedText t) ≡ frameRefusal t
+  number-either-way =
+      let on-tile = between (pos 0) (pos (stepsPerPixel * f .side)) in
+      let number : _ → ℕ = λ inside.
+      firstNo
+      (question11 t ∷ question1 (f .side) ∷ question4 (f .counts) ∷ question5 (f .counts) ∷ record { number = 6; answer = inside } ∷ question7 (f .side) (f .level)
+      ∷ []) in
+      ap₂ (λ b g. firstNo (record { number = 11; answer = b } ∷ outlineQuestions g)) (read-either-way .0 ∙ sym is) (read-either-way .1)
+      ∙ ap number (reversed-every (f .points) (f .counts) long on-tile)
 
-  pub printed-either-way : outputText (frameText (reversedFrame f))
-      ≡ summaryText (edgeCount (f .counts)) (negℤ (getD (frameTable f) 0 (pos 0))) ++ rowsText (2 ^ f .level) (2 ^ f .level) (frameGreys f)
-  printed-either-way =
-      let table = tableOf-reversed (f .points) (f .counts) long (f .side) in
-      if-done _ _ answered-either-way ∙ ap drawnText (back .1)
-      ∙ ap₂ (λ root greys. summaryText (edgeCount (f .counts)) root ++ rowsText (2 ^ f .level) (2 ^ f .level) greys)
-      (ap (λ l. getD l 0 (pos 0)) table ∙ entry-opposite (frameTable f) 0)
+  root : getD (frameTable f) 0 (pos 0) ≡ areaOf f
+  root = entries-root dimensions (depthOf (f .side)) (outlineTable (depthOf (f .side)) (edgesOf (f .points) (f .counts)))
+
+  reversed-drawn : drawnText (reversedFrame f) ≡ printedWith f (negℤ (areaOf f))
+  reversed-drawn =
+      let table : frameTable (reversedFrame f) ≡ opposite (frameTable f) =
+      reversed-edges-table (f .side) (edgesOf (f .points) (f .counts)) (reversed-edges (f .points) (f .counts) long) in
+      ap₂ (λ area greys. summaryText (edgeCount (f .counts)) area ++ rowsText (2 ^ f .level) (2 ^ f .level) greys)
+      (ap (λ l. getD l 0 (pos 0)) table ∙ entry-opposite (frameTable f) 0 ∙ ap negℤ root)
       (ap (λ l. pictureIn (greyOf (f .side)) l (f .level)) table ∙ greys-opposite dimensions (frameTable f) (f .side) (f .level))
+
+pub printed-either-way : (t : List ℕ) → frameRefusal t ≡ 0
+    → (outputText t ≡ printedWith (frameOf t) (areaOf (frameOf t))) × (outputText (reversedText t) ≡ printedWith (frameOf t) (negℤ (areaOf (frameOf t))))
+printed-either-way t done =
+    let is = frame-refusals t .accepted .0 done .0 in (
+      if-done _ _ done ∙ ap (printedWith (frameOf t)) (root t is),
+      if-done _ _ (number-either-way t is ∙ done) ∙ ap drawnText (read-either-way t is .1) ∙ reversed-drawn t is,
+    )

@@ -7,20 +7,25 @@
 --   grey side num den            the grey of num / den: by that rule, of its magnitude
 --   greyOf side f                the grey of the figure f
 --   OneApart a b                 two greys that are at most one apart
+-- Checks
+--   half-pixel, half-pixel-below half a pixel's ink has the grey 128, either way round
+--   full-pixel-below             a pixel's ink below zero has the full grey
+use mathlib.Core.Path.{_≡_, refl}
 use Prim.Native.Nat.{ℕ, _+_, _*_, _≤_}
-use lib.IntN.{ℤ, pos, natAbs, _*ℤ_}
+use lib.IntN.{ℤ, pos, negℤ, natAbs, _*ℤ_}
 use Rattle.integers.specs.Units.{unitsPerPixel, fullGrey}
+use Rattle.integers.specs.MinMax.{min, max}
 use Rattle.integers.specs.Magnitude.{abs}
 use Rattle.integers.specs.Clamp.{clamp}
-use Rattle.integers.specs.Rounding.{roundHalfUp}
+use Rattle.integers.specs.Rounding.{floor, roundHalfUp}
 
 -- Such a cell of level L has a 4^L-th of the tile's area, and its figure is 4^L times that: 131,072 × side × side, whatever L is.
 abbrev pub full : ℕ → ℕ
 full side = unitsPerPixel * (side * side)
 
 -- "The grey is 255 × figure / (131,072 × side × side), the same at every level, rounded to the nearest whole number, halves up, then held
--- between 0 and 255. A figure below zero is 0, white." (02's P4 has overruled this last sentence: `grey`, below, hands this rule no number below zero.)
--- What is held so is not negative, and `natAbs` only makes a natural number of it.
+-- between 0 and 255. A figure below zero is 0, white." (02's P4 has overruled this last sentence: `grey`, below, hands this rule no number below zero, so
+-- that nothing is ever held at 0.) What is held so is not negative, and `natAbs` only makes a natural number of it.
 unfoldable pub inkGrey : ℕ → ℤ → ℕ → ℕ
 inkGrey side num den = natAbs (clamp (roundHalfUp (pos fullGrey *ℤ num) (full side * den)) (pos 0) (pos fullGrey))
 
@@ -31,6 +36,19 @@ grey side num den = inkGrey side (abs num) den
 
 abbrev pub greyOf : ℕ → ℤ → ℕ
 greyOf side f = grey side f 1
+
+-- Checks, on a tile of one pixel. Half of it is 127 1/2 greys: were the quotient rounded, and then its magnitude taken, it would be 127 below zero.
+half-pixel : greyOf 1 (pos 65536) ≡ 128
+unfolding min max abs floor roundHalfUp clamp inkGrey grey
+half-pixel = refl
+
+half-pixel-below : greyOf 1 (negℤ (pos 65536)) ≡ 128
+unfolding min max abs floor roundHalfUp clamp inkGrey grey
+half-pixel-below = refl
+
+full-pixel-below : greyOf 1 (negℤ (pos unitsPerPixel)) ≡ fullGrey
+unfolding min max abs floor roundHalfUp clamp inkGrey grey
+full-pixel-below = refl
 
 pub record OneApart (a b : ℕ) : Type 0 where
   pub up : a ≤ b + 1

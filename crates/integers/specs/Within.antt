@@ -6,7 +6,7 @@
 --   within-sign                                                      of a number times 1 or −1
 --   within-of-abs, abs-of-within, scaled-abs-of-within               the same as |x| ≤ b, or k |x| ≤ b
 --   within-of-natAbs, natAbs-of-within                               the same as |x| ≤ b, of natural numbers
---   within-abs                                                       magnitudes are no further apart than the numbers
+--   within-abs                                                       of two numbers within b of each other, the magnitudes are so too
 --   zero-of-within                                                   within 0 is 0
 --   bounds                                                           as facts for `lin≤`
 use mathlib.Core.Path.{_≡_, refl, sym, subst, subst₂}

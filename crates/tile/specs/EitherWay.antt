@@ -1,84 +1,90 @@
 -- A letter traced the other way round (02, P4): "A second tracing tool that we now buy goes anticlockwise round letters and clockwise round holes."
 --
--- Where building accepts an outline, it accepts it with the points of each contour in the reverse order too. Every entry has then the opposite sign, and so
--- has every figure; every grey is the same, at every level. It is said of what the calls leave (`Outcomes`), whatever the tables held before.
+-- Of two outlines that building accepts, let the edges of one be those of the other, each walked backwards, in whatever order (`EdgesReversed` of
+-- `accuracy`, in Laws/Reversal). Then every entry has the opposite sign, and so has every figure; every grey is the same, at every level, and so is the
+-- exact area's grey, by which it is measured. It is said of what the calls leave (`Outcomes`), whatever the tables held before.
 --
--- Where a contour begins does not matter: its edges are then the same in another order (`contourEdges-last` of `accuracy`, in Laws/Reversal), and
--- `reversed-edges` has the opposite table for the reversed edges in any order.
+-- The points of each contour in the reverse order are such an outline, and building answers the same number to it. So are contours that are walked back
+-- from their first points, or begin anywhere else: laws of contours there (`contourEdges-back`, `contourEdges-rotate`).
 --
 -- Definitions
---   reversed points counts       the points of an outline, each contour's in the reverse order
 --   opposite l                   a table or a picture of figures, with every sign turned
+--   reversed points counts       the points of an outline, each contour's in the reverse order
 -- Main results, of any table and its opposite
 --   opposite-number              a picture of the one is refused exactly where one of the other is, by the same number
 --   opposite-greys               their greys are the same
 --   opposite-figures             where a picture is not refused, the figures are opposite
 --   opposite-cell                one cell is refused alike, and its figure is opposite
--- Main results, of an outline
---   reversed-edges               edges that are reversed, in whatever order, have the opposite table
---   reversed-exact-grey          and the same exact grey in every cell: what a grey is measured by is the same too
---   reversed-length, tableOf-reversed,
---   reversed-twice               where an outline has as many points as its counts say, its reverse has as many, and the opposite table; twice reversed, it is
---                                as it was
---   reversed-accepted            where building accepts it, it accepts the reverse, over any table of side × side entries
---   reversed-table               and leaves the opposite table
---   reversed-greys               every grey is the same, at every level
---   reversed-figures             where a picture is not refused, its figures are opposite
---   reversed-cell                and so is one cell's figure
---   reversed-placed-accepted,
+-- Main results, of edges each walked backwards
+--   reversed-edges-table         they have the opposite table
+--   reversed-edges-grey          and in every cell the same exact grey
+-- Main results, of two outlines that are accepted, the edges of one those of the other, so walked
+--   either-way-table             building leaves opposite tables
+--   either-way-greys             so every grey is the same, at every level
+--   either-way-placed-table,
+--   either-way-placed-greys      the same with placements
+--   either-way-held-table,
+--   either-way-held-greys        and of tiles that hold such contours, after whatever corrections
+-- Main results, of an outline with the points of each contour in the reverse order, where there are as many points as the counts say
+--   reversed-length,
+--   reversed-every               its coordinates are as many, and a test of all of them has the same answer
+--   reversed-edges,
+--   reversed-placed-edges        its edges are so walked, without and with a placement
+--   reversed-number,
+--   reversed-placed-number       building answers the same number: it accepts both, or refuses both for the same question
+--   reversed-table,
+--   reversed-greys               so where it accepts the outline, tables are opposite, and every grey is the same, at every level
 --   reversed-placed-table,
 --   reversed-placed-greys        the same with a placement
---   accepted-either-way,
---   placed-either-way            so an outline that has as many points as its counts say is accepted exactly where its reverse is
+-- Instances
 --   a-reversed, g-reversed       01's letters B and H are A and G so reversed
---   c-opposite-grey              C's table with every sign turned has the grey 128, as C's has
-use mathlib.Core.Path.{_≡_, refl, sym, _∙_, ap, ap₂, fun-ext, subst}
-use mathlib.Core.Logic.{_↔_}
-use mathlib.Core.Bool.{not, _&&_, _||_}
-use mathlib.Core.List.{List, [], _∷_, map, reverse, Perm}
-use Prim.Native.Nat.{ℕ, zero, suc, _*_, _^_, _≤_}
+--   a-from-its-first-point       A walked the other way from its first point
+use mathlib.Core.Path.{_≡_, refl, sym, _∙_, ap, ap₂, fun-ext, subst₂}
+use mathlib.Core.Bool.{Bool, not, _&&_, _||_}
+use mathlib.Core.List.{List, [], _∷_, map, reverse, reverse-perm, Perm·refl}
+use Prim.Native.Nat.{ℕ, zero, suc, _*_, _^_}
 use lib.Dec.{eqb}
-use lib.ListN.{length, length-map}
+use lib.ListN.{length, length-map, replicate, length-replicate}
 use lib.IntN.{ℤ, pos, negℤ, _*ℤ_}
-use Rattle.integers.specs.Units.{entryLimit, mostEdges}
+use Rattle.integers.specs.Units.{stepsPerPixel, entryLimit}
 use Rattle.integers.specs.Ring.{read, ring}
 use Rattle.integers.specs.Tests.{every, between, within-neg-same}
 use Rattle.integers.specs.Every.{every-map}
 use Rattle.edge.specs.declared.Edge.{Edge}
-use Rattle.edge.specs.Laws.Reversal.{reverse as reverseEdge}
 use Rattle.haar.specs.Entries.{entries}
-use Rattle.haar.specs.Greys.{grey, greyOf}
-use Rattle.haar.specs.Plane.{dimensions, at, figureIn, pictureIn}
+use Rattle.haar.specs.Greys.{grey}
+use Rattle.haar.specs.Plane.{dimensions, at, figureIn}
 use Rattle.haar.specs.Laws.Greys.{grey-neg}
 use Rattle.haar.specs.Laws.Opposite.{figure-opposite, figures-opposite, greys-opposite, entries-opposite}
 use Rattle.placement.specs.declared.Placement.{Placement}
+use Rattle.placement.specs.declared.Placement.the-variants.{None}
 use Rattle.placement.specs.Placed.{placed, isMoving, floatsUsable, isMovable}
 use Rattle.placement.specs.Laws.PlacedPoints.{placed-length}
-use Rattle.accuracy.specs.Outline.{contoursOf, pointsOf, edgeCount, outlineEdges}
+use Rattle.accuracy.specs.Outline.{contoursOf, pointsOf, through, contourEdges, outlineEdges, edgeCount}
 use Rattle.accuracy.specs.ExactArea.{denominator, exactAreaNum}
 use Rattle.accuracy.specs.OutlineTable.{outlineTable}
-use Rattle.accuracy.specs.Laws.Reversal.{outlineEdges-reverse, reversed-edges-table, denominator-reversed, exactArea-reversed}
-use Rattle.tile.specs.Questions.{Yes, Question, depthOf, question1, question2, question7, question8, question9, question10, question12, firstNo}
-use Rattle.tile.specs.Outcomes.{ifDone, edgesTable, tableOf, buildRefusal, buildTable, placedRefusal, placedTable}
-use Rattle.tile.specs.Outcomes.{drawRefusal, figuresPicture, greysPicture, cellRefusal, cellResult}
-use Rattle.tile.specs.Refusals.{question2-means, placed-refusals}
+use Rattle.accuracy.specs.Laws.Reversal.{EdgesReversed, outlineEdges-reverse, denominator-reversed, exactArea-reversed}
+use Rattle.accuracy.specs.Laws.Reversal.{reversed-edges-table as coefficients-opposite}
+use Rattle.tile.specs.Questions.{Question, depthOf, firstNo, question1, question2, question4, question5, question7, question8, question9, question10}
+use Rattle.tile.specs.Outcomes.{ifDone, edgesOf, edgesTable, buildRefusal, buildTable, placedRefusal, placedTable}
+use Rattle.tile.specs.Outcomes.{tableOf, drawRefusal, figuresPicture, greysPicture, cellRefusal, cellResult}
 use Rattle.tile.specs.DrawnFigures.{figures-drawn}
 use Rattle.tile.specs.Faithful.{figureNum}
-use Rattle.tile.specs.PlacedOutline.{placed-number, placed-as-built}
-use Rattle.tile.specs.Corrections.{Contour}
-use Rattle.tile.specs.Holding.{coordinatesOf, coordinates, countsOf}
-use Rattle.tile.specs.Letters.{letterA, letterB, letterC, letterG, letterH, counts as one-count}
-use Rattle.tile.specs.Laws.Accepted.{accepted}
+use Rattle.tile.specs.PlacedOutline.{placed-none-as-built}
+use Rattle.tile.specs.Corrections.{Tile, Contour}
+use Rattle.tile.specs.Holding.{coordinatesOf, coordinates, countsOf, HoldsContours}
+use Rattle.tile.specs.Letters.{letterA, letterB, letterG, letterH, counts as one-count}
+use Rattle.tile.specs.Laws.IfDone.{if-done}
+use Rattle.tile.specs.Laws.Accepted.{accepted, placed-accepted}
 use Rattle.tile.specs.Laws.BuiltTable.{built-is}
-use Rattle.tile.specs.Laws.Computed.{computedPicture}
-use Rattle.tile.specs.Laws.Written.{contours-back, coordinates-length, coordinates-back, contours-edges, written-accepted}
-use Rattle.tile.specs.Laws.ReversedContours.{reverse-counts, reverse-twice, reverse-every, reverse-asked, reverse-placed}
-
-abbrev pub reversed : List ℤ → List ℕ → List ℤ
-reversed points counts = coordinates (map reverse (contoursOf counts points))
+use Rattle.tile.specs.Laws.Written.{contours-back, coordinates-length, coordinates-back}
+use Rattle.tile.specs.Laws.ReversedContours.{reverse-counts, reverse-every, reverse-placed}
 
 abbrev pub opposite : List ℤ → List ℤ
 opposite = map negℤ
+
+abbrev pub reversed : List ℤ → List ℕ → List ℤ
+reversed points counts = coordinates (map reverse (contoursOf counts points))
 
 -- ---- any table, and the opposite one: questions 2 and 9 are answered alike
 module _ (side : ℕ) (table : List ℤ) where
@@ -118,20 +124,65 @@ module _ (side : ℕ) (table : List ℤ) where
       turned zero = refl
       turned (suc n) = refl
 
--- ---- the table of the reversed edges
-pub reversed-edges : (side : ℕ) (es : List Edge) {fs : List Edge} → Perm fs (map reverseEdge es) → edgesTable side fs ≡ opposite (edgesTable side es)
-reversed-edges side es p =
-    ap (entries dimensions (depthOf side)) (reversed-edges-table (depthOf side) es p) ∙ entries-opposite dimensions (depthOf side) (outlineTable (depthOf side) es)
+-- ---- edges, each walked backwards
+module _ (side : ℕ) (es : List Edge) {fs : List Edge} (back : EdgesReversed es fs) where
+  pub reversed-edges-table : edgesTable side fs ≡ opposite (edgesTable side es)
+  reversed-edges-table =
+      ap (entries dimensions (depthOf side)) (coefficients-opposite (depthOf side) es back)
+      ∙ entries-opposite dimensions (depthOf side) (outlineTable (depthOf side) es)
 
-pub reversed-exact-grey : (side : ℕ) (es : List Edge) {fs : List Edge} → Perm fs (map reverseEdge es) → (level cx cy : ℕ)
-    → grey side (figureNum side fs level cx cy) (denominator fs) ≡ grey side (figureNum side es level cx cy) (denominator es)
-reversed-exact-grey side es p level cx cy =
-    let area = exactAreaNum (depthOf side) es level (at cx cy) in
-    let out : pos (4 ^ level) *ℤ negℤ area ≡ negℤ (pos (4 ^ level) *ℤ area) = ring (pos (4 ^ level) ∷ area ∷ []) (search read depth 40) tt in
-    ap₂ (grey side) (ap (λ z. pos (4 ^ level) *ℤ z) (exactArea-reversed es p (depthOf side) level (at cx cy)) ∙ out) (denominator-reversed es p)
-    ∙ grey-neg side (figureNum side es level cx cy) (denominator es)
+  pub reversed-edges-grey : (level cx cy : ℕ) → grey side (figureNum side fs level cx cy) (denominator fs) ≡ grey side (figureNum side es level cx cy) (denominator es)
+  reversed-edges-grey level cx cy =
+      let area = exactAreaNum (depthOf side) es level (at cx cy) in
+      let out : pos (4 ^ level) *ℤ negℤ area ≡ negℤ (pos (4 ^ level) *ℤ area) = ring (pos (4 ^ level) ∷ area ∷ []) (search read depth 40) tt in
+      ap₂ (grey side) (ap (λ z. pos (4 ^ level) *ℤ z) (exactArea-reversed es back (depthOf side) level (at cx cy)) ∙ out) (denominator-reversed es back)
+      ∙ grey-neg side (figureNum side es level cx cy) (denominator es)
 
--- ---- an outline and its contours, where question 3 is answered yes
+-- ---- two outlines that are accepted; `before` and `other` are what the tables held
+module _ (side : ℕ) (points : List ℤ) (counts : List ℕ) (before points′ : List ℤ) (counts′ : List ℕ) (other : List ℤ) where
+  module _ (done : buildRefusal side points counts before ≡ 0) (done′ : buildRefusal side points′ counts′ other ≡ 0)
+      (back : EdgesReversed (edgesOf points counts) (edgesOf points′ counts′)) where
+    pub either-way-table : buildTable side points′ counts′ other ≡ opposite (buildTable side points counts before)
+    either-way-table =
+        built-is side points′ counts′ other done′ ∙ reversed-edges-table side (edgesOf points counts) back
+        ∙ sym (ap opposite (built-is side points counts before done))
+
+    pub either-way-greys : (level : ℕ) (picture : List ℕ)
+        → greysPicture side level (buildTable side points′ counts′ other) picture ≡ greysPicture side level (buildTable side points counts before) picture
+    either-way-greys level picture =
+        ap (λ t. greysPicture side level t picture) either-way-table ∙ opposite-greys side (buildTable side points counts before) level picture
+
+  module _ (p p′ : Placement) (done : placedRefusal side points counts p before ≡ 0) (done′ : placedRefusal side points′ counts′ p′ other ≡ 0)
+      (back : EdgesReversed (edgesOf (placed p points) counts) (edgesOf (placed p′ points′) counts′)) where
+    pub either-way-placed-table : placedTable side points′ counts′ p′ other ≡ opposite (placedTable side points counts p before)
+    either-way-placed-table =
+        if-done (tableOf side (placed p′ points′) counts′) other done′ ∙ reversed-edges-table side (edgesOf (placed p points) counts) back
+        ∙ sym (ap opposite (if-done (tableOf side (placed p points) counts) before done))
+
+    pub either-way-placed-greys : (level : ℕ) (picture : List ℕ)
+        → greysPicture side level (placedTable side points′ counts′ p′ other) picture ≡ greysPicture side level (placedTable side points counts p before) picture
+    either-way-placed-greys level picture =
+        ap (λ t. greysPicture side level t picture) either-way-placed-table ∙ opposite-greys side (placedTable side points counts p before) level picture
+
+-- ---- two tiles that hold contours: each table is what building these leaves
+module _ (side : ℕ) (cs ds : List Contour) (t u : Tile) (held : HoldsContours side cs t) (held′ : HoldsContours side ds u)
+    (back : EdgesReversed (outlineEdges cs) (outlineEdges ds)) where
+  pub either-way-held-table : u .table ≡ opposite (t .table)
+  either-way-held-table =
+      let blank = replicate (side * side) (pos 0) in
+      let long = length-replicate (side * side) (pos 0) in
+      sym (held′ .table-built ds (Perm·refl ds) blank long)
+      ∙ either-way-table side (coordinates cs) (countsOf cs) blank (coordinates ds) (countsOf ds) blank
+      (ap (λ b. b .number) (held .count-built cs (Perm·refl cs) blank long))
+      (ap (λ b. b .number) (held′ .count-built ds (Perm·refl ds) blank long))
+      (subst₂ (λ k l. EdgesReversed (outlineEdges k) (outlineEdges l)) (sym (contours-back cs)) (sym (contours-back ds)) back)
+      ∙ ap opposite (held .table-built cs (Perm·refl cs) blank long)
+
+  pub either-way-held-greys : (level : ℕ) (picture : List ℕ) → greysPicture side level (u .table) picture ≡ greysPicture side level (t .table) picture
+  either-way-held-greys level picture =
+      ap (λ l. greysPicture side level l picture) either-way-held-table ∙ opposite-greys side (t .table) level picture
+
+-- ---- the points of each contour in the reverse order, where question 3 is answered yes
 module _ (points : List ℤ) (counts : List ℕ) (long : length points ≡ 2 * edgeCount counts) where
   abbrev cs : List Contour
   cs = contoursOf counts points
@@ -145,116 +196,89 @@ module _ (points : List ℤ) (counts : List ℕ) (long : length points ≡ 2 * e
   still-counts : countsOf (map reverse cs) ≡ counts
   still-counts = reverse-counts cs ∙ same-counts
 
-  read-back : contoursOf counts (reversed points counts) ≡ map reverse cs
-  read-back = ap (λ n. contoursOf n (reversed points counts)) (sym still-counts) ∙ contours-back (map reverse cs)
-
   pub reversed-length : length (reversed points counts) ≡ 2 * edgeCount counts
   reversed-length = coordinates-length (map reverse cs) ∙ ap (λ n. 2 * edgeCount n) still-counts
 
-  pub reversed-twice : reversed (reversed points counts) counts ≡ points
-  reversed-twice = ap (λ ds. coordinates (map reverse ds)) read-back ∙ ap coordinates (reverse-twice cs) ∙ same-points
+  pub reversed-edges : EdgesReversed (edgesOf points counts) (edgesOf (reversed points counts) counts)
+  reversed-edges =
+      let read : contoursOf counts (reversed points counts) ≡ map reverse cs =
+      ap (λ n. contoursOf n (reversed points counts)) (sym still-counts) ∙ contours-back (map reverse cs) in
+      rw read (outlineEdges-reverse cs)
 
-  pub tableOf-reversed : (side : ℕ) → tableOf side (reversed points counts) counts ≡ opposite (tableOf side points counts)
-  tableOf-reversed side = ap (λ ds. edgesTable side (outlineEdges ds)) read-back ∙ reversed-edges side (outlineEdges cs) (outlineEdges-reverse cs)
+  pub reversed-every : (test : ℤ → Bool) → every test (reversed points counts) ≡ every test points
+  reversed-every test = reverse-every test cs ∙ ap (every test) same-points
 
-  -- what goes from an outline to its reverse goes back as well
-  both-ways : (P : List ℤ → Type 0) → ((l : List ℤ) → P l → P (reversed l counts)) → P (reversed points counts) ↔ P points
-  both-ways P turned = (λ p. subst P reversed-twice (turned (reversed points counts) p), turned points)
+  module _ (placement : Placement) where
+    long-placed : length (placed placement points) ≡ 2 * edgeCount counts
+    long-placed = placed-length placement points ∙ long
 
--- ---- an outline that building accepts, and the same reversed, over any table of side × side entries
-module _ (side : ℕ) (points : List ℤ) (counts : List ℕ) (before : List ℤ) (done : buildRefusal side points counts before ≡ 0) where
-  long : length points ≡ 2 * edgeCount counts
-  long = accepted side points counts before done .points-length
+    -- reversed as they are handed over, and then placed
+    placed-reversed : placed placement (reversed points counts) ≡ reversed (placed placement points) counts
+    placed-reversed = reverse-placed placement cs ∙ ap₂ (λ l n. reversed (placed placement l) n) same-points same-counts
 
-  pub reversed-accepted : (other : List ℤ) → length other ≡ side * side → buildRefusal side (reversed points counts) counts other ≡ 0
-  reversed-accepted other e =
-      let cs = contoursOf counts points in
-      let as-written : buildRefusal side (coordinates cs) (countsOf cs) before ≡ 0 =
-      ap₂ (λ p n. buildRefusal side p n before) (same-points points counts long) (same-counts points counts long) ∙ done in
-      let y = written-accepted side cs before .0 as-written in
-      let few = sym (contours-edges cs) ∙ ap edgeCount (sym (reverse-counts cs)) ∙ contours-edges (map reverse cs) in
-      ap (λ n. buildRefusal side (reversed points counts) n other) (sym (still-counts points counts long))
-      ∙ written-accepted side (map reverse cs) other .1
-      (y .0, question2-means side other .1 e, reverse-asked side cs ∙ y .2, subst (λ n. n ≤ mostEdges) few (y .3))
+  pub reversed-placed-number : (placement : Placement) (side : ℕ) (before other : List ℤ) → length other ≡ length before
+      → placedRefusal side (reversed points counts) counts placement other ≡ placedRefusal side points counts placement before
+  reversed-placed-number placement side before other e =
+      let on-tile = between (pos 0) (pos (stepsPerPixel * side)) in
+      let number : ℕ → ℕ → Bool → Bool → ℕ = λ entries coordinates movable inside.
+      firstNo
+      (question1 side ∷ record { number = 2; answer = eqb entries (side * side) } ∷ question4 counts ∷ question5 counts
+      ∷ record { number = 3; answer = eqb coordinates (2 * edgeCount counts) }
+      ∷ record { number = 12; answer = not (isMoving placement) || (floatsUsable placement && movable) } ∷ record { number = 6; answer = inside } ∷ []) in
+      ap₂ (λ m n. number m n (every isMovable (reversed points counts)) (every on-tile (placed placement (reversed points counts)))) e (reversed-length ∙ sym long)
+      ∙ ap₂ (number (length before) (length points)) (reversed-every isMovable) (ap (every on-tile) (placed-reversed placement) ∙ same-placed on-tile)
+    where
+      same-placed : (test : ℤ → Bool) → every test (reversed (placed placement points) counts) ≡ every test (placed placement points)
+      same-placed test =
+          reverse-every test (contoursOf counts (placed placement points)) ∙ ap (every test) (coordinates-back counts (placed placement points) (long-placed placement) .0)
 
-  module _ (other : List ℤ) (e : length other ≡ side * side) where
+  pub reversed-number : (side : ℕ) (before other : List ℤ) → length other ≡ length before
+      → buildRefusal side (reversed points counts) counts other ≡ buildRefusal side points counts before
+  reversed-number side before other e =
+      let built : (l table : List ℤ) → placedRefusal side l counts None table ≡ buildRefusal side l counts table =
+      λ l table. ap (λ b. b .number) (placed-none-as-built side l counts table .0) in
+      sym (built (reversed points counts) other) ∙ reversed-placed-number None side before other e ∙ built points before
+
+pub reversed-placed-edges : (points : List ℤ) (counts : List ℕ) → length points ≡ 2 * edgeCount counts → (placement : Placement)
+    → EdgesReversed (edgesOf (placed placement points) counts) (edgesOf (placed placement (reversed points counts)) counts)
+reversed-placed-edges points counts long placement =
+    rw (placed-reversed points counts long placement) (reversed-edges (placed placement points) counts (long-placed points counts long placement))
+
+-- ---- so, where the outline is accepted, over any other table that is as long
+module _ (side : ℕ) (points : List ℤ) (counts : List ℕ) (before other : List ℤ) (e : length other ≡ length before) where
+  module _ (done : buildRefusal side points counts before ≡ 0) where
+    enough : length points ≡ 2 * edgeCount counts
+    enough = accepted side points counts before done .points-length
+
+    done-reversed : buildRefusal side (reversed points counts) counts other ≡ 0
+    done-reversed = reversed-number points counts enough side before other e ∙ done
+
     pub reversed-table : buildTable side (reversed points counts) counts other ≡ opposite (buildTable side points counts before)
-    reversed-table =
-        built-is side (reversed points counts) counts other (reversed-accepted other e)
-        ∙ tableOf-reversed points counts long side
-        ∙ sym (ap opposite (built-is side points counts before done))
+    reversed-table = either-way-table side points counts before (reversed points counts) counts other done done-reversed (reversed-edges points counts enough)
 
     pub reversed-greys : (level : ℕ) (picture : List ℕ)
         → greysPicture side level (buildTable side (reversed points counts) counts other) picture
         ≡ greysPicture side level (buildTable side points counts before) picture
-    reversed-greys level picture =
-        ap (λ t. greysPicture side level t picture) reversed-table ∙ opposite-greys side (buildTable side points counts before) level picture
+    reversed-greys = either-way-greys side points counts before (reversed points counts) counts other done done-reversed (reversed-edges points counts enough)
 
-    pub reversed-figures : (level : ℕ) (picture : List ℤ) → drawRefusal side level (buildTable side points counts before) (length picture) ≡ 0
-        → figuresPicture side level (buildTable side (reversed points counts) counts other) picture
-        ≡ opposite (figuresPicture side level (buildTable side points counts before) picture)
-    reversed-figures level picture drawn =
-        ap (λ t. figuresPicture side level t picture) reversed-table ∙ opposite-figures side (buildTable side points counts before) level picture drawn
+  module _ (placement : Placement) (done : placedRefusal side points counts placement before ≡ 0) where
+    enough-placed : length points ≡ 2 * edgeCount counts
+    enough-placed = sym (placed-length placement points) ∙ placed-accepted side points counts placement before done .points-length
 
-    pub reversed-cell : (level cx cy : ℕ)
-        → cellResult side level cx cy (buildTable side (reversed points counts) counts other) .figure
-        ≡ negℤ (cellResult side level cx cy (buildTable side points counts before) .figure)
-    reversed-cell level cx cy =
-        ap (λ t. cellResult side level cx cy t .figure) reversed-table
-        ∙ ap (λ r. r .figure) (opposite-cell side (buildTable side points counts before) level cx cy)
-
-pub accepted-either-way : (side : ℕ) (points : List ℤ) (counts : List ℕ) (before : List ℤ) → length points ≡ 2 * edgeCount counts
-    → (buildRefusal side (reversed points counts) counts before ≡ 0) ↔ (buildRefusal side points counts before ≡ 0)
-accepted-either-way side points counts before enough =
-    both-ways points counts enough (λ l. buildRefusal side l counts before ≡ 0)
-    (λ l done. reversed-accepted side l counts before done before (accepted side l counts before done .table-length))
-
--- ---- with a placement: the points are reversed as they are handed over
-module _ (side : ℕ) (points : List ℤ) (counts : List ℕ) (placement : Placement) (before : List ℤ) (done : placedRefusal side points counts placement before ≡ 0) where
-  yes12 : Yes (question12 placement points)
-  yes12 = placed-refusals side points counts placement before .accepted .0 done .1 .1 .1 .1 .1 .0
-
-  built : buildRefusal side (placed placement points) counts before ≡ 0
-  built = sym (placed-number side points counts before placement yes12) ∙ done
-
-  long-placed : length points ≡ 2 * edgeCount counts
-  long-placed = sym (placed-length placement points) ∙ long side (placed placement points) counts before built
-
-  still-yes12 : Yes (question12 placement (reversed points counts))
-  still-yes12 =
-      ap (λ b. not (isMoving placement) || (floatsUsable placement && b))
-      (reverse-every isMovable (contoursOf counts points) ∙ ap (every isMovable) (same-points points counts long-placed)) ∙ yes12
-
-  placed-reversed : placed placement (reversed points counts) ≡ reversed (placed placement points) counts
-  placed-reversed =
-      reverse-placed placement (contoursOf counts points)
-      ∙ ap₂ (λ l n. reversed (placed placement l) n) (same-points points counts long-placed) (same-counts points counts long-placed)
-
-  module _ (other : List ℤ) (e : length other ≡ side * side) where
-    pub reversed-placed-accepted : placedRefusal side (reversed points counts) counts placement other ≡ 0
-    reversed-placed-accepted =
-        placed-number side (reversed points counts) counts other placement still-yes12
-        ∙ ap (λ l. buildRefusal side l counts other) placed-reversed ∙ reversed-accepted side (placed placement points) counts before built other e
+    done-placed : placedRefusal side (reversed points counts) counts placement other ≡ 0
+    done-placed = reversed-placed-number points counts enough-placed placement side before other e ∙ done
 
     pub reversed-placed-table : placedTable side (reversed points counts) counts placement other ≡ opposite (placedTable side points counts placement before)
     reversed-placed-table =
-        placed-as-built side (reversed points counts) counts other placement still-yes12 .1
-        ∙ ap (λ l. buildTable side l counts other) placed-reversed ∙ reversed-table side (placed placement points) counts before built other e
-        ∙ sym (ap opposite (placed-as-built side points counts before placement yes12 .1))
+        either-way-placed-table side points counts before (reversed points counts) counts other placement placement done done-placed
+        (reversed-placed-edges points counts enough-placed placement)
 
     pub reversed-placed-greys : (level : ℕ) (picture : List ℕ)
         → greysPicture side level (placedTable side (reversed points counts) counts placement other) picture
         ≡ greysPicture side level (placedTable side points counts placement before) picture
-    reversed-placed-greys level picture =
-        ap (λ t. greysPicture side level t picture) reversed-placed-table
-        ∙ opposite-greys side (placedTable side points counts placement before) level picture
-
-pub placed-either-way : (side : ℕ) (points : List ℤ) (counts : List ℕ) (placement : Placement) (before : List ℤ) → length points ≡ 2 * edgeCount counts
-    → (placedRefusal side (reversed points counts) counts placement before ≡ 0) ↔ (placedRefusal side points counts placement before ≡ 0)
-placed-either-way side points counts placement before enough =
-    both-ways points counts enough (λ l. placedRefusal side l counts placement before ≡ 0)
-    (λ l done. reversed-placed-accepted side l counts placement before done before
-    (accepted side (placed placement l) counts before (built side l counts placement before done) .table-length))
+    reversed-placed-greys =
+        either-way-placed-greys side points counts before (reversed points counts) counts other placement placement done done-placed
+        (reversed-placed-edges points counts enough-placed placement)
 
 -- ---- "B. A reversed", "H. G reversed"
 pub a-reversed : reversed (letterA .points) (one-count letterA) ≡ letterB .points
@@ -265,7 +289,8 @@ pub g-reversed : reversed (letterG .points) (one-count letterG) ≡ letterH .poi
 unfolding contoursOf pointsOf coordinates coordinatesOf
 g-reversed = refl
 
--- C is half a pixel, 127 1/2 greys, the one half that a whole figure comes to. Had the quotient been rounded and not its magnitude, this would be 127.
-pub c-opposite-grey : pictureIn (greyOf 1) (opposite (letterC .table)) 0 ≡ 128 ∷ []
-unfolding computedPicture
-c-opposite-grey = refl
+-- (0,0) (0,256) (256,256) (256,0)
+pub a-from-its-first-point : EdgesReversed (edgesOf (letterA .points) (one-count letterA))
+    (edgesOf (pos 0 ∷ pos 0 ∷ pos 0 ∷ pos 256 ∷ pos 256 ∷ pos 256 ∷ pos 256 ∷ pos 0 ∷ []) (one-count letterA))
+unfolding contoursOf pointsOf through contourEdges outlineEdges
+a-from-its-first-point = reverse-perm _

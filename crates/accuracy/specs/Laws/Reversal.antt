@@ -1,16 +1,20 @@
--- The reversed outline has the opposite table, and opposite exact areas: with every edge reversed, and with every contour walked the other way.
+-- Reversed edges, in whatever order, have the opposite table, and opposite exact areas; and so has an outline with every contour walked the other way,
+-- wherever each begins.
 --
+-- Definitions
+--   EdgesReversed es fs          the edges fs are the edges es, each walked backwards, in whatever order
 -- Main results
 --   outlineTable-reverse         the reversed edges have the opposite table
---   contourEdges-last            a contour that begins at its last point has the same edges, in another order
---   contourEdges-reverse         a contour's points backwards: its edges reversed, in another order
---   outlineEdges-reverse         the same of every contour of an outline
+--   contourEdges-rotate          a contour that begins at another of its points has the same edges, in another order
+--   contourEdges-back            a contour walked the other way from its first point: its edges reversed, in another order
+--   contourEdges-reverse         the same of its points backwards, where the first point is the last
+--   outlineEdges-reverse         each contour of an outline backwards
 --   reversed-edges-table         edges that are reversed, in whatever order, have the opposite table
 --   denominator-reversed,
 --   exactArea-reversed           and opposite exact areas, over the same denominator
 --   outline-reversed             an outline with every contour walked the other way has the opposite table
-use mathlib.Core.Path.{_≡_, refl, _∙_, ap, ap₂, fun-ext}
-use mathlib.Core.List.{List, [], _∷_, _++_, map, map-append, reverse as backwards, reverse-cons}
+use mathlib.Core.Path.{_≡_, refl, sym, _∙_, ap, ap₂, fun-ext, subst₂}
+use mathlib.Core.List.{List, [], _∷_, _++_, map, map-append, append-assoc, append-nil, reverse as backwards, reverse-cons}
 use mathlib.Core.List.{Perm, Perm·nil, Perm·refl, Perm·cons, Perm·swap, Perm·trans, Perm·symm, Perm·append}
 use Prim.Native.Nat.{ℕ}
 use lib.IntN.{ℤ, negsuc, negℤ, _*ℤ_}
@@ -33,6 +37,9 @@ use Rattle.accuracy.specs.ExactDetails.{numbered}
 use Rattle.accuracy.specs.OutlineTable.{edgeTable, outlineTable}
 use Rattle.accuracy.specs.Laws.Numbered.{numbered-each}
 use Rattle.accuracy.specs.Laws.Order.{outlineTable-perm}
+
+abbrev pub EdgesReversed : List Edge → List Edge → Type 0
+EdgesReversed es fs = Perm fs (map reverse es)
 
 -- ---- every edge reversed
 total-reverse : (f : Edge → ℤ) → ((e : Edge) → f (reverse e) ≡ negℤ (f e)) → (es : List Edge) → total f (map reverse es) ≡ negℤ (total f es)
@@ -60,27 +67,39 @@ through-reverse p [] last = Perm·refl (edgeBetween last p ∷ [])
 through-reverse p (q ∷ qs) last =
     rw (reverse-cons q qs) (Perm·trans (through-last last (backwards qs) q p) (Perm·cons (edgeBetween q p) (through-reverse q qs last)))
 
--- a contour has the same edges if it begins at its last point; and backwards, the first point is the last
-pub contourEdges-last : (qs : List Point) (p : Point) → Perm (contourEdges (qs ++ (p ∷ []))) (contourEdges (p ∷ qs))
+-- a contour has the same edges if it begins at its last point
+contourEdges-last : (qs : List Point) (p : Point) → Perm (contourEdges (qs ++ (p ∷ []))) (contourEdges (p ∷ qs))
 unfolding contourEdges through
 contourEdges-last [] p = Perm·refl (through p [] p)
 contourEdges-last (q ∷ qs) p = through-last q qs p q
 
-pub contourEdges-reverse : (ps : List Point) → Perm (contourEdges (backwards ps)) (map reverse (contourEdges ps))
+pub contourEdges-back : (p : Point) (ps : List Point) → EdgesReversed (contourEdges (p ∷ ps)) (contourEdges (p ∷ backwards ps))
+unfolding contourEdges
+contourEdges-back p ps = through-reverse p ps p
+
+pub contourEdges-reverse : (ps : List Point) → EdgesReversed (contourEdges ps) (contourEdges (backwards ps))
 unfolding contourEdges
 contourEdges-reverse [] = Perm·nil
-contourEdges-reverse (p ∷ ps) = rw (reverse-cons p ps) (Perm·trans (contourEdges-last (backwards ps) p) (through-reverse p ps p))
+contourEdges-reverse (p ∷ ps) = rw (reverse-cons p ps) (Perm·trans (contourEdges-last (backwards ps) p) (contourEdges-back p ps))
 
-pub outlineEdges-reverse : (cs : List (List Point)) → Perm (outlineEdges (map backwards cs)) (map reverse (outlineEdges cs))
+-- point by point, the first becomes the last
+pub contourEdges-rotate : (ps qs : List Point) → Perm (contourEdges (ps ++ qs)) (contourEdges (qs ++ ps))
+contourEdges-rotate [] qs = rw (append-nil qs) (Perm·refl (contourEdges qs))
+contourEdges-rotate (p ∷ ps) qs =
+    Perm·trans (Perm·symm (contourEdges-last (ps ++ qs) p))
+    (subst₂ (λ k l. Perm (contourEdges k) (contourEdges l)) (sym (append-assoc ps qs (p ∷ []))) (append-assoc qs (p ∷ []) ps)
+    (contourEdges-rotate ps (qs ++ (p ∷ []))))
+
+pub outlineEdges-reverse : (cs : List (List Point)) → EdgesReversed (outlineEdges cs) (outlineEdges (map backwards cs))
 unfolding outlineEdges
 outlineEdges-reverse [] = Perm·nil
 outlineEdges-reverse (c ∷ cs) =
     rw (map-append reverse (contourEdges c) (outlineEdges cs)) (Perm·append (contourEdges-reverse c) (outlineEdges-reverse cs))
 
-pub reversed-edges-table : (depth : ℕ) (es : List Edge) {fs : List Edge} → Perm fs (map reverse es) → outlineTable depth fs ≡ negated (outlineTable depth es)
+pub reversed-edges-table : (depth : ℕ) (es : List Edge) {fs : List Edge} → EdgesReversed es fs → outlineTable depth fs ≡ negated (outlineTable depth es)
 reversed-edges-table depth es p = outlineTable-perm depth (Perm·symm p) ∙ outlineTable-reverse depth es
 
-module _ (es : List Edge) {fs : List Edge} (p : Perm fs (map reverse es)) where
+module _ (es : List Edge) {fs : List Edge} (p : EdgesReversed es fs) where
   pub denominator-reversed : denominator fs ≡ denominator es
   denominator-reversed = common-perm steps p ∙ common-map steps reverse es ∙ ap (λ N. common N es) (fun-ext steps-reverse)
 

@@ -6,9 +6,9 @@
 --   grey-byte                    a grey is at most 255
 --   greys-one-apart              fractions at most a 255th of the full figure apart have greys at most one apart
 --   grey-nearest                 up to the full figure a grey is how many 255ths of it the magnitude is, to the nearest whole number, halves up
---   grey-half, grey-half-below   n 255ths of it and a half have the grey n + 1, up to 255; below zero too: the magnitude is rounded, and not the fraction
+--   grey-half, grey-half-below   n and a half 255ths of it have the grey n + 1, up to 255; below zero too: the magnitude is rounded, and not the fraction
+--   grey-full                    from the full figure's magnitude on it is the full grey
 --   grey-magnitude               a figure's grey is 01's, of its magnitude
---   grey-full                    a figure of the full figure's magnitude or more has the full grey
 use mathlib.Core.Path.{_≡_, refl, sym, _∙_, ap, ap₂}
 use mathlib.Core.List.{[], _∷_}
 use Prim.Native.Nat.{ℕ, _+_, _*_, _<_, _≤_}
@@ -61,9 +61,11 @@ grey-half {side} n s k = ap (λ z. inkGrey side z (2 * fullGrey)) (abs-pos ((2 *
 pub grey-half-below : {side : ℕ} (n : ℕ) → 0 < side → n + 1 ≤ fullGrey → grey side (negℤ (pos ((2 * n + 1) * full side))) (2 * fullGrey) ≡ n + 1
 grey-half-below {side} n s k = grey-neg side (pos ((2 * n + 1) * full side)) (2 * fullGrey) ∙ grey-half n s k
 
+pub grey-full : {side den : ℕ} (num : ℤ) → 0 < side → 0 < den → full side * den ≤ natAbs num → grey side num den ≡ fullGrey
+unfolding grey abs
+grey-full num s g h = ink-full s g (pos-≤ℤ h)
+
+-- as code has a figure's magnitude
 pub grey-magnitude : (side : ℕ) (f : ℤ) (n : ℕ) → n ≡ natAbs f → greyOf side f ≡ inkGrey side (pos n) 1
 unfolding grey abs
 grey-magnitude side f n e = ap (λ k. inkGrey side (pos k) 1) (sym e)
-
-pub grey-full : {side : ℕ} (f : ℤ) → 0 < side → full side ≤ natAbs f → greyOf side f ≡ fullGrey
-grey-full {side} f s h = grey-magnitude side f (natAbs f) refl ∙ ink-full s (pos-≤ℤ h)

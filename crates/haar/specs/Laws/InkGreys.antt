@@ -4,11 +4,10 @@
 -- Main results
 --   full-pos                     a tile's full figure is above 0
 --   ink-clamp, ink-byte          a grey is the rounded fraction, held; it is at most 255
---   ink-mono                     a larger fraction has no smaller grey
 --   ink-one-apart                fractions at most a 255th of the full figure apart have greys at most one apart
 --   ink-nearest                  from 0 to the full figure it is the nearest whole number, halves up
---   ink-whole, ink-half          n 255ths of the full figure have the grey n, up to 255; half a 255th more, the next one
---   ink-full                     a figure of the full figure or more has the full grey
+--   ink-half                     n and a half 255ths of the full figure have the grey n + 1, up to 255
+--   ink-full                     the full figure or more has the full grey
 use mathlib.Core.Path.{_≡_, sym, _∙_, ap, subst, subst⁻¹, subst₂}
 use mathlib.Core.List.{[], _∷_}
 use Prim.Native.Nat.{ℕ, _+_, _*_, _<_, _≤_}
@@ -49,7 +48,7 @@ ink-byte side num den =
 -- ---- two fractions, a / d and b / e
 module _ {side : ℕ} (s : 0 < side) (a b : ℤ) {d e : ℕ} (g : 0 < d) (h : 0 < e) where
   -- a / d ≤ b / e
-  pub ink-mono : (a *ℤ pos e) ≤ℤ (b *ℤ pos d) → inkGrey side a d ≤ inkGrey side b e
+  ink-mono : (a *ℤ pos e) ≤ℤ (b *ℤ pos d) → inkGrey side a d ≤ inkGrey side b e
   ink-mono k =
       let i : rounded side a d ≤ℤ rounded side b e =
       roundHalfUp-mono (pos fullGrey *ℤ a) (pos fullGrey *ℤ b) (mul-pos (full-pos s) g) (mul-pos (full-pos s) h)
@@ -95,7 +94,7 @@ ink-nearest {side} {den} {num} s g low high =
     (roundHalfUp-bounds (pos fullGrey *ℤ num) d)
 
 -- ---- known greys
-pub ink-whole : {side : ℕ} (n : ℕ) → 0 < side → n ≤ fullGrey → inkGrey side (pos (n * full side)) fullGrey ≡ n
+ink-whole : {side : ℕ} (n : ℕ) → 0 < side → n ≤ fullGrey → inkGrey side (pos (n * full side)) fullGrey ≡ n
 ink-whole {side} n s k = ap natAbs (ink-clamp side (pos (n * full side)) fullGrey ∙ ap held exact ∙ clamp-inside (nonneg n) (pos-≤ℤ k))
   where
     exact : rounded side (pos (n * full side)) fullGrey ≡ pos n
@@ -115,8 +114,8 @@ ink-half {side} n s k = ap natAbs (ink-clamp side (pos ((2 * n + 1) * full side)
           under = lin< (pos n ∷ pos side ∷ []) (le (pos-≤ℤ d)) (search linear depth 40) tt;
         }))
 
-pub ink-full : {side : ℕ} {f : ℤ} → 0 < side → pos (full side) ≤ℤ f → inkGrey side f 1 ≡ fullGrey
-ink-full {side} {f} s k =
-    let i = ink-mono s (pos (fullGrey * full side)) f {d = fullGrey} {e = 1} (omega arith) (omega arith)
-    (lin≤ (f ∷ pos side ∷ []) (le k) (search linear depth 40) tt) in
-    omega (arith, ink-whole fullGrey s (omega arith), ink-byte side f 1)
+pub ink-full : {side den : ℕ} {num : ℤ} → 0 < side → 0 < den → pos (full side * den) ≤ℤ num → inkGrey side num den ≡ fullGrey
+ink-full {side} {den} {num} s g k =
+    let i = ink-mono s (pos (fullGrey * full side)) num {d = fullGrey} {e = den} (omega arith) g
+    (lin≤ (num ∷ pos side ∷ pos den ∷ []) (le k) (search linear depth 40) tt) in
+    omega (arith, ink-whole fullGrey s (omega arith), ink-byte side num den)

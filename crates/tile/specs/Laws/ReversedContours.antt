@@ -1,34 +1,25 @@
--- Contours, each with its points in the reverse order: each is one that building accepts exactly where it was, and a placement moves it as it moved the
--- contour.
+-- Contours, each with its points in the reverse order: the questions are answered as they were, and a placement moves each as it moved the contour.
 --
 -- Main results
 --   reverse-counts               each has as many points as before
---   reverse-twice                twice reversed, they are as they were
 --   reverse-every                a test of every coordinate has the same answer
---   reverse-asked                and so has the question whether building accepts each
 --   reverse-placed               reversed and then placed they are as placed and then reversed
 use mathlib.Core.Path.{_≡_, refl, sym, _∙_, ap, ap₂, fun-ext}
 use mathlib.Core.Bool.{Bool, _&&_, and-assoc}
-use mathlib.Core.List.{List, [], _∷_, _++_, map, map-append, map-map, map-id, reverse, reverse-cons, reverse-perm, reverse-reverse}
-use Prim.Native.Nat.{ℕ, _*_}
+use mathlib.Core.List.{List, [], _∷_, _++_, map, map-append, map-map, reverse, reverse-cons, reverse-perm}
 use lib.ListN.{length, length-reverse, length-map}
-use lib.IntN.{ℤ, pos}
-use Rattle.integers.specs.Units.{stepsPerPixel}
-use Rattle.integers.specs.Tests.{every, between}
+use lib.IntN.{ℤ}
+use Rattle.integers.specs.Tests.{every}
 use Rattle.integers.specs.Every.{every-map, every-perm}
 use Rattle.placement.specs.declared.Placement.{Placement}
 use Rattle.placement.specs.Placed.{acrossOf, downOf, placed}
 use Rattle.accuracy.specs.Outline.{Point, contoursOf}
-use Rattle.tile.specs.Questions.{question4}
 use Rattle.tile.specs.Corrections.{Contour}
 use Rattle.tile.specs.Holding.{coordinatesOf, coordinates, countsOf}
-use Rattle.tile.specs.Laws.Written.{isContour, contours-back, coordinates-asked}
+use Rattle.tile.specs.Laws.Written.{contours-back, coordinates-asked}
 
 pub reverse-counts : (cs : List Contour) → countsOf (map reverse cs) ≡ countsOf cs
 reverse-counts cs = map-map length reverse cs ∙ ap (λ f. map f cs) (fun-ext length-reverse)
-
-pub reverse-twice : (cs : List Contour) → map reverse (map reverse cs) ≡ cs
-reverse-twice cs = map-map reverse reverse cs ∙ ap (λ f. map f cs) (fun-ext reverse-reverse) ∙ map-id cs
 
 -- ---- a test of every coordinate is one of every point, and their order does not matter
 by-points : (test : ℤ → Bool) (c : Contour) → every test (coordinatesOf c) ≡ every (λ p. test (p .x) && test (p .y)) c
@@ -46,12 +37,6 @@ module _ (test : ℤ → Bool) where
   reverse-every cs =
       coordinates-asked test (map reverse cs) ∙ every-map (λ c. every test (coordinatesOf c)) reverse cs
       ∙ ap (λ f. every f cs) (fun-ext reverse-contour) ∙ sym (coordinates-asked test cs)
-
-pub reverse-asked : (side : ℕ) (cs : List Contour) → every (isContour side) (map reverse cs) ≡ every (isContour side) cs
-reverse-asked side cs = every-map (isContour side) reverse cs ∙ ap (λ f. every f cs) (fun-ext same)
-  where
-    same : (c : Contour) → isContour side (reverse c) ≡ isContour side c
-    same c = ap₂ (λ n b. question4 (n ∷ []) .answer && b) (length-reverse c) (reverse-contour (between (pos 0) (pos (stepsPerPixel * side))) c)
 
 -- ---- a placement moves each point by itself
 module _ (p : Placement) where

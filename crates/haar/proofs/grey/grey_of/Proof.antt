@@ -1,6 +1,6 @@
 -- `haar::grey::grey_of` meets its contract. The full figure is a power of two, at most 2^29, so the shift to the left loses nothing and the sum fits.
 use mathlib.Core.Path.{_≡_, sym, _∙_, ap}
-use Prim.Native.Nat.{_^_, _≤_}
+use Prim.Native.Nat.{_*_, _^_, _≤_}
 use native.Mathlib.Omega.{arith}
 use lib.Pow.{pow-pos}
 use lib.IntN.{natAbs}
@@ -23,8 +23,8 @@ returns c =
     let depth = m .before .args .depth in
     let e = full-shift depth in
     let b = full-most (m .before .pre) in
-    let h : full (2 ^ depth) ≤ natAbs (m .before .args .figure) = omega (arith, magnitude-is m) in
-    sym (grey-full (m .before .args .figure) (pow-pos depth) h)
+    let h : full (2 ^ depth) * 1 ≤ natAbs (m .before .args .figure) = omega (arith, magnitude-is m) in
+    sym (grey-full (m .before .args .figure) (pow-pos depth) (omega arith) h)
 
 -- ---- short of it
 mul-result : tie.Need-mul-result
