@@ -67,13 +67,15 @@ uint32_t mattuliyan_build_placed(uint32_t side, const int64_t *points, size_t po
 
 /* Puts a contour into a tile: points has x and y of each of its count points in turn, in steps, and the contour is these as placed; the
  * placement is handed over as to mattuliyan_build_placed. What it adds to each entry is added to the table, and its count to *edges, the
- * record. A tile begins with a table of zeros and a record of 0, or with what building left. */
+ * record. A tile begins with a table of zeros and a record of 0, or with what building left. The contour should go round as the tile's other
+ * letters do, and a hole the other way: where both directions share a pixel, they cancel. */
 uint32_t mattuliyan_put(uint32_t side, const int64_t *points, size_t points_length, uint32_t count, const double *placement,
                         size_t placement_length, uint32_t *edges, int64_t *table, size_t table_length);
 
 /* Takes a contour out of a tile again: as mattuliyan_put, with its values taken from the table and its count from *edges. A contour is known
  * by its points as placed, in their order, so it may be taken out under another placement than it was put in, if that leads to the same
- * points. Only a contour that is in should be taken out: the call cannot tell, and takes out any that passes its questions. */
+ * points. Its reverse is another contour: to take out the reverse of one that is in adds that one's ink once more. Only a contour that is in
+ * should be taken out: the call cannot tell, and takes out any that passes its questions. */
 uint32_t mattuliyan_take(uint32_t side, const int64_t *points, size_t points_length, uint32_t count, const double *placement,
                          size_t placement_length, uint32_t *edges, int64_t *table, size_t table_length);
 

@@ -2,8 +2,8 @@
 //!
 //! A tile is a square of 1, 2, 4, 8, 16, 32 or 64 pixels a side, a step is 1/256 pixel, x grows to the right and y downwards. An outline is
 //! closed contours of whole points, letters clockwise as seen on the page, the holes in them anticlockwise, or all of it the other way round:
-//! every figure then has the opposite sign, and every grey is the same. [`build`] turns it into a table of Haar coefficients, from which [`figures`], [`greys`] and
-//! [`cell`] draw any level: 2^level pixels across, from 1 to the side.
+//! every figure then has the opposite sign, and every grey is the same. [`build`] turns it into a table of Haar coefficients, from which
+//! [`figures`], [`greys`] and [`cell`] draw any level: 2^level pixels across, from 1 to the side.
 //!
 //! ```
 //! use std::error::Error;
@@ -238,6 +238,8 @@ pub fn build_by_numbers(
 /// and the contour is these as placed. What it adds to each entry is added to the table, and its count to `edges`, the record. A tile begins with
 /// a table of zeros and a record of 0, or with what [`build`] or [`build_placed`] left and answered. [`Tile`] keeps the two together.
 ///
+/// The contour should go round as the tile's other letters do, and a hole the other way: where both directions share a pixel, they cancel.
+///
 /// ```
 /// # fn main() -> Result<(), Box<dyn std::error::Error>> {
 /// use mattuliyan::Placement;
@@ -278,8 +280,9 @@ pub fn put(
 }
 
 /// Takes a contour out of a tile again: as [`put`], with its values taken from the table and its count from `edges`, the record. A contour is
-/// known by its points as placed, so it may be taken out under another placement than it was put in, if that leads to the same points. Only a
-/// contour that is in should be taken out: the call cannot tell, and takes out any whose count the record allows.
+/// known by its points as placed, in their order, so it may be taken out under another placement than it was put in, if that leads to the same
+/// points. Its reverse is another contour: to take out the reverse of one that is in adds that one's ink once more. Only a contour that is in
+/// should be taken out: the call cannot tell, and takes out any whose count the record allows.
 pub fn take(
     side: u32,
     points: &[i64],
@@ -355,9 +358,8 @@ pub fn figures(side: u32, level: u32, table: &[i64], picture: &mut [i64]) -> Res
 
 /// Draws the greys of a level, row by row from the top left: 0 is bare paper, 255 full ink.
 ///
-/// A grey is 255 × |figure| / (131,072 × side × side), to the nearest whole number, halves up, and at most 255: a letter may be traced
-/// either way round.
-/// Where contours of opposite directions share a pixel, they cancel.
+/// A grey is 255 × |figure| / (131,072 × side × side), to the nearest whole number, halves up, and at most 255: a letter may be traced either
+/// way round. Where contours of opposite directions share a pixel, they cancel.
 pub fn greys(side: u32, level: u32, table: &[i64], picture: &mut [u8]) -> Result<(), Refusal> {
     // SAFETY: as in `build`.
     let number =

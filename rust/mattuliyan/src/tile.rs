@@ -65,13 +65,14 @@ impl Tile {
     /// Puts a contour in: its points as placed, `points` having x and y of each in turn, in steps.
     ///
     /// It has a point for every two numbers, from 3 to 1,024 points (else 4), and the edges that are in and its own are at most 1,024 (else 5).
-    /// A last x without a y is refused (3).
+    /// A last x without a y is refused (3). The call [`put`](crate::put) says which way round it should go.
     pub fn put(&mut self, points: &[i64], placement: Placement) -> Result<(), Refusal> {
         crate::put(self.side, points, count(points.len()), placement, &mut self.edges, &mut self.table)
     }
 
-    /// Takes a contour out again, as [`put`](Tile::put) put it in. It is known by its points as placed, so it may be taken out under another
-    /// placement that leads to the same points. More edges than are in are refused (13); a contour that is not in is not.
+    /// Takes a contour out again, as [`put`](Tile::put) put it in. It is known by its points as placed, in their order, so it may be taken out
+    /// under another placement that leads to the same points; its reverse is another contour, as the call [`take`](crate::take) says. More edges
+    /// than are in are refused (13); a contour that is not in is not.
     pub fn take(&mut self, points: &[i64], placement: Placement) -> Result<(), Refusal> {
         crate::take(self.side, points, count(points.len()), placement, &mut self.edges, &mut self.table)
     }

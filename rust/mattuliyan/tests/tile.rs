@@ -65,6 +65,10 @@ fn corrected_letters() {
     assert_eq!((tile.edges(), tile.table()), (0, &[380, 299, 380, 299][..]));
     tile.put(&G, Placement::None).unwrap();
     assert_eq!(tile, Tile::build(2, &F, &[3], Placement::None).unwrap());
+
+    // the reverse of the one that is in: its ink is there twice
+    tile.take(&[0, 1, 384, 1, 0, 0], Placement::None).unwrap();
+    assert_eq!((tile.edges(), tile.table()), (0, &[768, 598, 768, 598][..]));
 }
 
 #[test]
