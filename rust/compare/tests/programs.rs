@@ -204,7 +204,8 @@ fn page_of_a_placed_letter() {
     let output = page(&["--turn", "-1", "0", "1024", "0", "1", "0"]);
     let mirrored = text(&output.stdout);
     assert!(output.status.success(), "{mirrored}{}", text(&output.stderr));
-    assert!(head(&mirrored)[2].contains("the outline as placed is traced anticlockwise"), "{mirrored}");
+    let line = "That is below zero, so on the whole the outline as placed goes round anticlockwise; it is drawn all the same, by magnitude.";
+    assert_eq!(head(&mirrored)[2..], [line]);
 }
 
 #[test]

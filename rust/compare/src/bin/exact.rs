@@ -146,12 +146,14 @@ code. ",
     let (side, edges) = (outline.side, grouped(outline.edges().into()));
     let mut hand = String::new();
     if area < 0 {
-        // said of the outline as placed, because a placement that mirrors turns the hand round
-        let which = if placement == Placement::None { "the outline" } else { "the outline as placed" };
+        // a placement that mirrors turns the hand round, so of a placed outline it is not said how it was traced
+        let goes = match placement {
+            Placement::None => "the outline is traced",
+            _ => "the outline as placed goes round",
+        };
         writeln!(
             hand,
-            "That is below zero, so on the whole {which} is traced anticlockwise; it is drawn all the same, by \
-             magnitude."
+            "That is below zero, so on the whole {goes} anticlockwise; it is drawn all the same, by magnitude."
         )
         .unwrap();
     }
