@@ -16,7 +16,7 @@ pub mod random;
 pub mod series;
 
 use calls::Difference;
-use demand3::Worst;
+use demand3::{Looked, Worst};
 use outlines::{Outline, SIDES};
 use random::Random;
 use reference::{Rules, Spec};
@@ -93,6 +93,14 @@ impl Seen {
         if ratio(&worst) > ratio(&self.worst) {
             self.worst = worst;
         }
+    }
+
+    /// Adds what was looked at in a level of an outline.
+    fn add_level(&mut self, looked: Looked) {
+        self.cells += looked.cells;
+        self.greys_one_apart += looked.greys_one_apart;
+        self.inked_below_zero += looked.inked[1];
+        self.consider(looked.worst);
     }
 
     fn answer<T>(&mut self, answer: Result<T, u8>) -> Option<T> {
@@ -179,11 +187,13 @@ pub fn from_outline_to_pictures(
     seen.largest[outline.depth() as usize] += (edges == outlines::MOST_EDGES) as u64;
     for level in 0..=outline.depth() {
         let (figures, greys) = pictures(rules, random, side, level, &table, seen)?;
-        let [above, below] = hold_to_demand3(rules, outline, level, area, &figures, &greys, seen)?;
+        let looked = demand3::near_by(rules, outline, level, area, &figures, &greys)?;
         if level == outline.depth() {
+            let [above, below] = looked.inked;
             seen.with_ink_below_zero += (below > 0) as u64;
             seen.with_ink_of_both_signs += (above > 0 && below > 0) as u64;
         }
+        seen.add_level(looked);
         cells_alone(rules, random, side, level, &table, &figures, seen)?;
     }
     Ok(())
@@ -208,27 +218,9 @@ fn from_placed_to_pictures(
     let area = reference::signed_area(&placed.points, counts);
     for level in 0..=placed.depth() {
         let (figures, greys) = pictures(rules, random, side, level, &table, seen)?;
-        hold_to_demand3(rules, &placed, level, area, &figures, &greys, seen)?;
+        seen.add_level(demand3::near_by(rules, &placed, level, area, &figures, &greys)?);
     }
     Ok(())
-}
-
-/// Holds a level of an outline to demand 3; `area` is the outline's signed area. How many cells have ink above zero, and below it.
-fn hold_to_demand3(
-    rules: &dyn Rules,
-    outline: &Outline,
-    level: u32,
-    area: i64,
-    figures: &[i64],
-    greys: &[u8],
-    seen: &mut Seen,
-) -> Result<[u64; 2], Difference> {
-    let looked = demand3::near_by(rules, outline, level, area, figures, greys)?;
-    seen.cells += looked.cells;
-    seen.greys_one_apart += looked.greys_one_apart;
-    seen.inked_below_zero += looked.inked[1];
-    seen.consider(looked.worst);
-    Ok(looked.inked)
 }
 
 /// Draws a level of a table as figures and as greys.

@@ -382,12 +382,12 @@ mod tests {
             for two in contours.windows(2) {
                 let [(letter, x, y), (hole, hole_x, hole_y)] = two else { unreachable!("windows of two") };
                 let inside = |of: &(i64, i64), hole: &(i64, i64)| of.0 < hole.0 && hole.1 < of.1;
-                if letter.signum() == -hole.signum() && inside(x, hole_x) && inside(y, hole_y) {
+                if letter.signum() * hole.signum() == -1 && inside(x, hole_x) && inside(y, hole_y) {
                     letters[(*letter < 0) as usize] += 1;
                 }
             }
         }
-        // without `hole` there are some fifty of each
+        // there are some 200 of each, and without `hole` from 40 to 54
         assert!(letters.iter().all(|&letters| letters > 120), "clockwise and anticlockwise with a hole: {letters:?}");
         println!("outlines: of 7,000, clockwise and anticlockwise with a hole: {letters:?}");
     }

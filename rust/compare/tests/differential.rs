@@ -19,7 +19,12 @@ fn library_and_reference_agree() {
     assert!(
         seen.with_ink_below_zero > CASES / 3
             && seen.with_ink_of_both_signs > CASES / 5
-            && seen.inked_below_zero > seen.cells / 20
+            && seen.inked_below_zero > seen.cells / 20,
+        "with ink below zero: {} outlines, {} of them with ink above it too, {} cells of {}",
+        seen.with_ink_below_zero,
+        seen.with_ink_of_both_signs,
+        seen.inked_below_zero,
+        seen.cells
     );
     assert!(seen.largest.iter().all(|&outlines| outlines > 10), "with the most edges: {:?}", seen.largest);
 }
