@@ -13,6 +13,7 @@ mod tables;
 mod tiles;
 
 use crate::frame::tile_program;
+use crate::questions::{depth, Limits};
 use crate::rules::Spec;
 use std::fs;
 use std::io::ErrorKind;
@@ -21,8 +22,8 @@ use std::path::Path;
 /// The command that makes every stored answer anew, given in `rust/`.
 pub const COMMAND: &str = "cargo run --release --bin answers";
 
-/// The depth of a tile of side 64.
-const GREATEST_DEPTH: u32 = 6;
+/// The depth of the largest tile.
+const GREATEST_DEPTH: u32 = depth(Limits::SPEC.greatest_side);
 
 /// A stored file, named from the project's top folder, and what it must hold.
 pub struct Answer {
@@ -51,7 +52,8 @@ const PROGRAMS: [(&str, Program); 5] = [
 
 /// Every stored answer of the project in this folder, in the order of the
 /// names; or what is amiss, a line for each: a file that cannot be read, a case
-/// that is none, an answer that nothing stands behind.
+/// that is none, an answer that nothing stands behind, a file among the frames
+/// that is neither frame nor answer.
 pub fn all(top: &Path) -> Result<Vec<Answer>, String> {
     let (mut answers, mut amiss) = (Vec::new(), Vec::new());
     for answer in programs(top)?.into_iter().chain(frames(top)?) {
@@ -79,6 +81,9 @@ fn frames(top: &Path) -> Result<Vec<Result<Answer, String>>, String> {
             if !files.contains(&format!("{name}.frame")) {
                 answers.push(Err(format!("{folder}/{file}: it has no frame")));
             }
+        } else if !file.starts_with('.') {
+            // A hidden file is git's or an editor's own.
+            answers.push(Err(format!("{folder}/{file}: it is neither a frame nor an answer")));
         }
     }
     Ok(answers)

@@ -165,7 +165,7 @@ impl Given<'_> {
 }
 
 /// "The depth is the number of noughts below that bit."
-pub(crate) fn depth(side: u32) -> u32 {
+pub(crate) const fn depth(side: u32) -> u32 {
     side.trailing_zeros()
 }
 

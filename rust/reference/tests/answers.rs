@@ -15,11 +15,17 @@ fn all() -> Vec<Answer> {
     answers::all(&top()).unwrap_or_else(|amiss| panic!("{amiss}"))
 }
 
+/// How many stored answers there are, of frames and of programs. A frame that is
+/// lost together with its answer is missed nowhere else, nor is a program that is
+/// lost with its `stdout`. Whoever adds one counts it here.
+const FRAMES: usize = 137;
+const PROGRAMS: usize = 5;
+
 #[test]
-fn stored_answers_are_the_reference_s() {
+fn stored_answers_are_those_of_the_reference() {
     let answers = all();
     let of = |folder: &str| answers.iter().filter(|answer| answer.name.starts_with(folder)).count();
-    assert!(of("tests/frames/") > 100 && of("crates/") == 5, "{} answers", answers.len());
+    assert_eq!((of("tests/frames/"), of("crates/")), (FRAMES, PROGRAMS), "frames and programs");
     let differ = answers.iter().filter_map(|answer| answer.difference(&top()).unwrap_or_else(Some));
     let differ: Vec<String> = differ.collect();
     assert!(differ.is_empty(), "{}\n`{COMMAND}`, given in rust/, makes them anew", differ.join("\n"));
@@ -29,7 +35,7 @@ fn stored_answers_are_the_reference_s() {
 const FRAME: &str = "tests/frames/letter_a_level_0";
 
 /// A project of this test's own: a frame and each program's cases, with the
-/// answers that are stored here.
+/// answers that the reference makes of them.
 fn project(test: &str) -> PathBuf {
     let project = Path::new(env!("CARGO_TARGET_TMPDIR")).join(test);
     if project.exists() {
@@ -58,23 +64,29 @@ fn text(output: &[u8]) -> String {
     String::from_utf8(output.to_vec()).unwrap()
 }
 
+/// The last line that is printed of such a project, where so many of its files
+/// are rewritten: there is one for each program, and one for the frame.
+fn rewritten(files: usize) -> String {
+    format!("answers: {} files, {files} rewritten\n", PROGRAMS + 1)
+}
+
 #[test]
 fn what_changes_is_written() {
     let project = project("written");
     let (greys, frame) = (project.join("crates/haar_vectors/stdout"), project.join(FRAME));
     let right = fs::read_to_string(&greys).unwrap();
-    assert_eq!(text(&run(&project).stdout), "answers: 6 files, 0 rewritten\n");
+    assert_eq!(text(&run(&project).stdout), rewritten(0));
     // A digit, a line too many, a last line that is not closed, a file that is not there.
     let digit = right.replacen("greys   255", "greys   254", 1);
     for wrong in [digit, right.clone() + "\n", right.trim_end().to_string()] {
         assert_ne!(wrong, right);
         fs::write(&greys, wrong).unwrap();
-        assert_eq!(text(&run(&project).stdout), "crates/haar_vectors/stdout\nanswers: 6 files, 1 rewritten\n");
+        assert_eq!(text(&run(&project).stdout), format!("crates/haar_vectors/stdout\n{}", rewritten(1)));
         assert_eq!(fs::read_to_string(&greys).unwrap(), right);
     }
     fs::remove_file(frame.with_extension("answer")).unwrap();
     let output = run(&project);
-    assert_eq!(text(&output.stdout), format!("{FRAME}.answer\nanswers: 6 files, 1 rewritten\n"));
+    assert_eq!(text(&output.stdout), format!("{FRAME}.answer\n{}", rewritten(1)));
     assert!(output.status.success() && frame.with_extension("answer").exists());
 }
 
@@ -98,6 +110,13 @@ fn what_is_amiss_is_told() {
     refused(&project, "tests/frames/orphan.answer: it has no frame");
     fs::remove_file(&orphan).unwrap();
 
+    for name in ["notes.txt", "letter.frame.old", "frame"] {
+        let stray = project.join("tests/frames").join(name);
+        fs::write(&stray, "0100\n").unwrap();
+        refused(&project, &format!("tests/frames/{name}: it is neither a frame nor an answer"));
+        fs::remove_file(&stray).unwrap();
+    }
+
     fs::create_dir(project.join("crates/other")).unwrap();
     fs::write(project.join("crates/other/stdout"), "").unwrap();
     refused(&project, "crates/other/stdout: its program is not known here");
@@ -105,6 +124,7 @@ fn what_is_amiss_is_told() {
 
     // a stored answer that cannot be read, the last of the programs'
     let last = project.join("crates/tile_vectors/stdout");
+    let made = fs::read(&last).unwrap();
     fs::remove_file(&last).unwrap();
     fs::create_dir(&last).unwrap();
     let output = run(&project);
@@ -112,7 +132,7 @@ fn what_is_amiss_is_told() {
     assert!(text(&output.stderr).starts_with("crates/tile_vectors/stdout: "), "{}", text(&output.stderr));
     assert_eq!(fs::read_to_string(&wrong).unwrap(), "");
     fs::remove_dir(&last).unwrap();
-    fs::copy(top().join("crates/tile_vectors/stdout"), &last).unwrap();
+    fs::write(&last, made).unwrap();
 
     for (name, case) in [
         ("edge_vectors", "0 0 0 0 0 0"),
@@ -129,7 +149,7 @@ fn what_is_amiss_is_told() {
     }
 
     assert_eq!(fs::read_to_string(&wrong).unwrap(), "");
-    assert_eq!(text(&run(&project).stdout), "crates/edge_vectors/stdout\nanswers: 6 files, 1 rewritten\n");
+    assert_eq!(text(&run(&project).stdout), format!("crates/edge_vectors/stdout\n{}", rewritten(1)));
 }
 
 #[test]

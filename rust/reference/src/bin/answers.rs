@@ -7,9 +7,9 @@ use std::process::ExitCode;
 
 const USAGE: &str = "usage: answers [TOP]
 Makes the answers of tests/frames and of the programs in crates anew, in the project whose top folder is TOP, this one if
-left out, and writes and names those that change. Where a file cannot be read, a line is no case, or an answer has
-nothing that it answers, it says so, writes none and ends with status 1. The status is 1 too where a file cannot be
-written.";
+left out, and writes and names those that change. Where a file cannot be read, a line is no case, an answer has nothing
+that it answers, or a file of tests/frames is neither a frame nor an answer, it says so, writes none and ends with
+status 1. The status is 1 too where a file cannot be written.";
 
 fn main() -> ExitCode {
     let words: Vec<String> = std::env::args().skip(1).collect();
