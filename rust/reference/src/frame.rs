@@ -13,7 +13,7 @@ const NOT_FORMED: u8 = 11;
 
 /// How many noughts the program's table has before building: the side × side
 /// entries of the largest tile.
-const LARGEST_TABLE: usize = 4096;
+pub(crate) const LARGEST_TABLE: usize = 4096;
 
 /// What a well-formed text says. Whether it can be drawn is not yet asked.
 #[derive(Clone, Debug, PartialEq, Eq)]

@@ -7,13 +7,16 @@ use crate::table::place;
 /// The figures of a level, row by row from the top left, or the refusal's
 /// number. `places` is how many places the caller's picture has.
 pub fn figures(rules: &dyn Rules, side: u32, level: u32, table: &[i64], places: usize) -> Result<Vec<i64>, u8> {
-    let given = Given { side, table, level, places, ..Given::default() };
-    given.ask(&rules.picture(), rules)?;
-    Ok(worked(rules, level, table).into_iter().map(|figure| rules.answered(figure)).collect())
+    let worked = worked(rules, side, level, table, places)?;
+    Ok(worked.into_iter().map(|figure| rules.answered(figure)).collect())
 }
 
-/// The figures of a level of a table that may be drawn.
-fn worked(rules: &dyn Rules, level: u32, table: &[i64]) -> Vec<i64> {
+/// The figures of a level before they are answered or taken for greys, or the
+/// refusal's number.
+fn worked(rules: &dyn Rules, side: u32, level: u32, table: &[i64], places: usize) -> Result<Vec<i64>, u8> {
+    let given = Given { side, table, level, places, ..Given::default() };
+    given.ask(&rules.picture(), rules)?;
+
     // The whole picture of each level is made from that of the level above.
     let mut picture = vec![table[0]];
     for j in 0..level {
@@ -28,15 +31,14 @@ fn worked(rules: &dyn Rules, level: u32, table: &[i64]) -> Vec<i64> {
         }
         picture = finer;
     }
-    picture
+    Ok(picture)
 }
 
 /// The greys of a level, row by row from the top left, or the refusal's
 /// number.
 pub fn greys(rules: &dyn Rules, side: u32, level: u32, table: &[i64], places: usize) -> Result<Vec<u8>, u8> {
-    let given = Given { side, table, level, places, ..Given::default() };
-    given.ask(&rules.picture(), rules)?;
-    Ok(worked(rules, level, table).into_iter().map(|figure| rules.grey_of_cell(figure, table[0], side)).collect())
+    let worked = worked(rules, side, level, table, places)?;
+    Ok(worked.into_iter().map(|figure| rules.grey_of_cell(figure, table[0], side)).collect())
 }
 
 /// The figure of one cell, worked on its own from the root down through the

@@ -4,9 +4,9 @@
 
 mod common;
 
-use common::{Call, Outcome, Random};
+use common::{drawn, Call, Outcome, Random};
 use reference::Correction::{PutIn, TakeOut};
-use reference::{build, exact_areas, figures, greys, placed, put, take, Correction, Placement, Question, Rules, Spec};
+use reference::{build, exact_areas, placed, put, take, Correction, Placement, Question, Rules, Spec};
 
 /// 01's letters A to H, without their counts.
 const A: [i64; 8] = [0, 0, 256, 0, 256, 256, 0, 256];
@@ -499,9 +499,7 @@ fn corrected_letters_are_near_their_ink() {
         }
         assert_eq!(record, letter.edges());
         for level in 0..=3 {
-            let places = 4usize.pow(level);
-            let figures = figures(&Spec, 8, level, &table, places).unwrap();
-            let greys = greys(&Spec, 8, level, &table, places).unwrap();
+            let (figures, greys) = drawn(8, level, &table);
             for (i, area) in exact_areas(8, &letter.points, &letter.counts, level).iter().enumerate() {
                 let miss = area.miss(figures[i], level);
                 assert!(miss.within(level, record) && (miss.is_zero() || !letter.straight));

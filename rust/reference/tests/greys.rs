@@ -3,15 +3,8 @@
 
 mod common;
 
-use common::{Outline, Random};
-use reference::{build, cell, exact_areas, figures, greys, Rules, Spec, PIXEL};
-
-/// The figures and greys of a level.
-fn drawn(side: u32, level: u32, table: &[i64]) -> (Vec<i64>, Vec<u8>) {
-    let places = 1 << (2 * level);
-    let figures = figures(&Spec, side, level, table, places).unwrap();
-    (figures, greys(&Spec, side, level, table, places).unwrap())
-}
+use common::{drawn, Outline, Random};
+use reference::{build, cell, exact_areas, Rules, Spec, PIXEL};
 
 fn opposite(numbers: &[i64]) -> Vec<i64> {
     numbers.iter().map(|number| -number).collect()

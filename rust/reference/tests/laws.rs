@@ -3,8 +3,8 @@
 
 mod common;
 
-use common::{Outline, Random};
-use reference::{build, cell, exact_areas, exact_details, figures, greys, signed_area, Exact, Spec};
+use common::{drawn, Outline, Random};
+use reference::{build, cell, exact_areas, exact_details, signed_area, Exact, Spec};
 
 fn built(outline: &Outline) -> Vec<i64> {
     let noughts = outline.noughts();
@@ -103,9 +103,7 @@ fn demand_3() {
         let (side, edges) = (outline.side, outline.edges());
         let table = built(&outline);
         for level in 0..=outline.depth() {
-            let places = 4usize.pow(level);
-            let figures = figures(&Spec, side, level, &table, places).unwrap();
-            let greys = greys(&Spec, side, level, &table, places).unwrap();
+            let (figures, greys) = drawn(side, level, &table);
             assert_eq!(figures.iter().sum::<i64>(), table[0] << (2 * level));
             for (i, area) in areas(&outline, level).iter().enumerate() {
                 let (cx, cy) = (i as u32 & ((1 << level) - 1), i as u32 >> level);

@@ -1,6 +1,8 @@
 //! The letters and the further cases that 01 gives, number by number, and the
 //! one grey that 02's P4 changes.
 
+mod common;
+
 use reference::{build, cell, exact_areas, figures, frame, greys, tile_program, Frame, Spec};
 
 const A: [i64; 8] = [0, 0, 256, 0, 256, 256, 0, 256];
@@ -14,10 +16,9 @@ fn table(side: u32, points: &[i64]) -> Vec<i64> {
     table
 }
 
+/// The figures and greys of a level, each figure the same as its cell alone.
 fn drawn(side: u32, level: u32, table: &[i64]) -> (Vec<i64>, Vec<u8>) {
-    let places = 4usize.pow(level);
-    let figures = figures(&Spec, side, level, table, places).unwrap();
-    let greys = greys(&Spec, side, level, table, places).unwrap();
+    let (figures, greys) = common::drawn(side, level, table);
     for (i, &figure) in figures.iter().enumerate() {
         let (cx, cy) = (i as u32 & ((1 << level) - 1), i as u32 >> level);
         assert_eq!(cell(&Spec, side, level, cx, cy, table), Ok(figure));

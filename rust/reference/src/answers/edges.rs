@@ -18,7 +18,7 @@ pub fn answer(cases: &str) -> Result<String, String> {
         let numbers: Option<Vec<i128>> = case.split(' ').map(lines::number).collect();
         let numbers = numbers.and_then(|numbers| <[i128; 7]>::try_from(numbers).ok());
         let numbers = numbers.ok_or_else(|| format!("line {line}: it is not seven numbers"))?;
-        printed += &match in_range(numbers) {
+        printed += &match read(numbers) {
             Some((edge, cell)) => values(edge, cell),
             None => "out of range\n".to_string(),
         };
@@ -26,12 +26,13 @@ pub fn answer(cases: &str) -> Result<String, String> {
     Ok(printed)
 }
 
-fn in_range(numbers: [i128; 7]) -> Option<(Edge, Cell)> {
+/// The edge and the cell, where the program has room for the numbers.
+fn read(numbers: [i128; 7]) -> Option<(Edge, Cell)> {
     let [x0, y0, x1, y1, left, top, half] = numbers;
     let room = -ROOM..=ROOM;
-    let points = [x0, y0, x1, y1, left, top].iter().all(|coordinate| room.contains(coordinate));
+    let points_fit = [x0, y0, x1, y1, left, top].iter().all(|coordinate| room.contains(coordinate));
     let width = (0..=ROOM / 2).contains(&half).then_some(2 * half)?;
-    if !points || ![x1 - x0, y1 - y0].iter().all(|extent| room.contains(&(extent * width))) {
+    if !points_fit || ![x1 - x0, y1 - y0].iter().all(|extent| room.contains(&(extent * width))) {
         return None;
     }
     let [x0, y0, x1, y1, left, top, width] = [x0, y0, x1, y1, left, top, width].map(|number| number as i64);

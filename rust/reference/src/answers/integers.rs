@@ -2,6 +2,7 @@
 //! program reads nothing; its numbers stand here a second time.
 
 use crate::edge::Fraction;
+use crate::frame::LARGEST_TABLE;
 use crate::questions::Limits;
 use crate::rules::{Rules, Spec};
 
@@ -45,10 +46,8 @@ const LISTS: [&[i64]; 10] = [
     &[i64::MAX, i64::MIN],
 ];
 
-/// As many numbers as the largest table has entries. A list so long, every number
-/// at the limit, is searched; then each of these is written into it in turn, and
-/// it is searched anew.
-const LONG: usize = 4096;
+/// A list as long as the largest table, every number at the limit, is searched;
+/// then each of these is written into it in turn, and it is searched anew.
 const WRITTEN: [(usize, i64); 9] = [
     (4095, ABOVE),
     (4094, BELOW),
@@ -67,7 +66,7 @@ pub fn answer() -> String {
     for list in LISTS {
         printed += &searched(list);
     }
-    let mut long = [LIMIT; LONG];
+    let mut long = [LIMIT; LARGEST_TABLE];
     printed += &searched(&long);
     for (place, number) in WRITTEN {
         long[place] = number;

@@ -17,8 +17,10 @@ use crate::table::build;
 /// How long each list is: more than any call takes.
 const ROOM: usize = 4100;
 
-/// A number from here on, either way, is taken for the end of 64 bits.
-const FAR: i128 = 9_223_372_036_854_775_800;
+/// A number from here on, either way, is taken for the end of 64 bits. The
+/// program reads digit by digit, and goes on only where any digit has room: from
+/// the last multiple of 10 on, a 9 would have none.
+const FAR: i128 = i64::MAX as i128 / 10 * 10;
 
 /// What the next calls are given.
 struct Given {
@@ -51,14 +53,15 @@ pub fn answer(cases: &str) -> Result<String, String> {
     for (line, case) in lines::cases(cases) {
         let mut words = case.split(' ');
         let letter = words.next().unwrap_or_default();
-        let numbers: Option<Vec<i64>> = words.take(ROOM).map(|word| lines::number(word).map(held)).collect();
+        let numbers: Option<Vec<i64>> = words.take(ROOM).map(|word| lines::number(word).map(nearest_i64)).collect();
         let answer = numbers.and_then(|numbers| given.line(letter, &numbers));
         printed += &answer.ok_or_else(|| format!("line {line}: it is no case"))?;
     }
     Ok(printed)
 }
 
-fn held(number: i128) -> i64 {
+/// The nearest number of 64 bits, with one from `FAR` on taken for the end.
+fn nearest_i64(number: i128) -> i64 {
     match number {
         FAR.. => i64::MAX,
         _ if number <= -FAR => i64::MIN,
@@ -127,16 +130,12 @@ impl Given {
 
     fn draw_figures(&mut self, level: u32, places: usize) -> String {
         let drawn = figures(&Spec, self.side, level, &self.table[..self.entries], places);
-        let number = written(&mut self.figures[..places], drawn);
-        let (told, list) = (self.told("figures", level), lines::list(&self.figures[..places]));
-        format!("{told} places {places}: {number} picture{list}\n")
+        picture(self.told("figures", level), drawn, &mut self.figures[..places])
     }
 
     fn draw_greys(&mut self, level: u32, places: usize) -> String {
         let drawn = greys(&Spec, self.side, level, &self.table[..self.entries], places);
-        let number = written(&mut self.greys[..places], drawn);
-        let (told, list) = (self.told("greys", level), lines::list(&self.greys[..places]));
-        format!("{told} places {places}: {number} picture{list}\n")
+        picture(self.told("greys", level), drawn, &mut self.greys[..places])
     }
 
     fn cell(&self, cx: u32, cy: u32) -> String {
@@ -161,13 +160,14 @@ impl Given {
     }
 }
 
-/// Writes a picture where it was drawn; the number that is answered.
-fn written<T: Copy>(list: &mut [T], drawn: Result<Vec<T>, u8>) -> u8 {
-    match drawn {
+/// What is printed of a picture. It is written to its list where it was drawn.
+fn picture<T: Copy + Into<i128>>(told: String, drawn: Result<Vec<T>, u8>, list: &mut [T]) -> String {
+    let number = match drawn {
         Ok(picture) => {
             list.copy_from_slice(&picture);
             0
         }
         Err(number) => number,
-    }
+    };
+    format!("{told} places {}: {number} picture{}\n", list.len(), lines::list(list))
 }

@@ -1,8 +1,8 @@
 //! Pseudo-random outlines and placements for the tests, the same at each run,
-//! and calls that correct a tile.
+//! and calls that draw a tile or correct it.
 #![allow(dead_code)] // each test file uses a part of this
 
-use reference::{put, take, Correction, Placement, Rules};
+use reference::{figures, greys, put, take, Correction, Placement, Rules, Spec};
 
 /// An outline that building accepts.
 #[derive(Clone, Debug)]
@@ -125,6 +125,13 @@ impl Random {
             ]),
         }
     }
+}
+
+/// The figures and greys of a level.
+pub fn drawn(side: u32, level: u32, table: &[i64]) -> (Vec<i64>, Vec<u8>) {
+    let places = 4usize.pow(level);
+    let figures = figures(&Spec, side, level, table, places).unwrap();
+    (figures, greys(&Spec, side, level, table, places).unwrap())
 }
 
 /// A call that puts a contour in or takes it out.
