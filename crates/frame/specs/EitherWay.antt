@@ -1,17 +1,20 @@
--- A frame traced the other way round (02, P4): the text with the points of each contour in the reverse order is a frame's too. The program answers the same
--- number to both, and where it draws them it prints the same edge count, the opposite signed area and the same greys.
+-- A frame traced the other way round (02, P4). Of two texts of one side and level that the program draws, let the edges of one outline be those of the
+-- other, each walked backwards, in whatever order: the same edge count is printed for both, opposite signed areas and the same greys.
+--
+-- The text with the points of each contour in the reverse order is such a text, and is refused where the text is, by the same number.
 --
 -- Definitions
---   reversedFrame f              the frame with each contour's points in the reverse order
---   reversedText t               the text of a text's frame, so reversed
 --   areaOf f                     the signed area of a frame's outline
---   printedWith f area           what is printed of a frame, with an area in the first line
--- Main results, of a text that is a frame's
---   read-either-way              the reversed text is that of the reversed frame
---   number-either-way            both are drawn, or both refused by the same number
---   printed-either-way           where they are drawn, what is printed of them differs in the area's sign alone
+--   printedWith f area           what is printed of a frame, with a given area for its own
+--   reversedFrame f              the frame with each contour's points in the reverse order
+--   reversedText t               the text of the frame that t says, so reversed
+-- Main results
+--   printed-either-way           what is printed of two such texts differs in the area alone, which is opposite
+--   read-reversed                of a text that is a frame's, the reversed text is that of the reversed frame
+--   number-reversed              both are drawn, or both refused by the same number
+--   printed-reversed             where they are drawn, what is printed of them so differs
 use mathlib.Core.Path.{_≡_, refl, sym, _∙_, ap, ap₂, subst}
-use mathlib.Core.Bool.{true, _&&_}
+use mathlib.Core.Bool.{Bool, true, _&&_}
 use mathlib.Core.List.{List, [], _∷_, _++_, map}
 use mathlib.Core.Logic.{_↔_}
 use Prim.Native.Nat.{ℕ, _+_, _*_, _^_, _≤_}
@@ -30,9 +33,11 @@ use Rattle.haar.specs.Laws.Opposite.{entry-opposite, greys-opposite}
 use Rattle.haar.specs.Laws.Entries.{entries-root}
 use Rattle.accuracy.specs.Outline.{edgeCount, signedArea}
 use Rattle.accuracy.specs.OutlineTable.{outlineTable}
+use Rattle.accuracy.specs.Laws.Coordinates.{contoursOf-count}
+use Rattle.accuracy.specs.Laws.Reversal.{EdgesReversed, length-reversed}
 use Rattle.tile.specs.Questions.{depthOf, firstNo, question1, question4, question5, question7}
 use Rattle.tile.specs.Outcomes.{edgesOf}
-use Rattle.tile.specs.EitherWay.{opposite, reversed, reversed-length, reversed-every, reversed-edges, reversed-edges-table}
+use Rattle.tile.specs.EitherWay.{opposite, reversed, reversed-length, reversed-every, edges-of-reversed, reversed-edges-table}
 use Rattle.tile.specs.Laws.IfDone.{if-done}
 use Rattle.frame.specs.Lines.{lineText}
 use Rattle.frame.specs.Frames.{Frame, frame, headWidth, coordinateWidth, contourText, frameText, Sayable, Writable}
@@ -43,17 +48,38 @@ use Rattle.frame.specs.RoundTrip.{read-written, written-read}
 use Rattle.frame.specs.Refusals.{frame-refusals}
 use Rattle.frame.specs.Laws.Printing.{line-text-length}
 
+abbrev pub areaOf : Frame → ℤ
+areaOf f = signedArea (edgesOf (f .points) (f .counts))
+
+abbrev pub printedWith : Frame → ℤ → List ℕ
+printedWith f area = summaryText (edgeCount (f .counts)) area ++ rowsText (2 ^ f .level) (2 ^ f .level) (frameGreys f)
+
 abbrev pub reversedFrame : Frame → Frame
 reversedFrame f = frame (f .side) (f .level) (reversed (f .points) (f .counts)) (f .counts)
 
 abbrev pub reversedText : List ℕ → List ℕ
 reversedText t = frameText (reversedFrame (frameOf t))
 
-abbrev pub areaOf : Frame → ℤ
-areaOf f = signedArea (edgesOf (f .points) (f .counts))
+-- ---- two frames of one side and level, whose points are as many as their counts say
+root : (f : Frame) → getD (frameTable f) 0 (pos 0) ≡ areaOf f
+root f = entries-root dimensions (depthOf (f .side)) (outlineTable (depthOf (f .side)) (edgesOf (f .points) (f .counts)))
 
-abbrev pub printedWith : Frame → ℤ → List ℕ
-printedWith f area = summaryText (edgeCount (f .counts)) area ++ rowsText (2 ^ f .level) (2 ^ f .level) (frameGreys f)
+edge-count : (f : Frame) → length (f .points) ≡ 2 * edgeCount (f .counts) → length (edgesOf (f .points) (f .counts)) ≡ edgeCount (f .counts)
+edge-count f long = contoursOf-count (f .counts) (f .points) (omega arith)
+
+module _ (side level : ℕ) (points points′ : List ℤ) (counts counts′ : List ℕ) (long : length points ≡ 2 * edgeCount counts)
+    (long′ : length points′ ≡ 2 * edgeCount counts′) (back : EdgesReversed (edgesOf points counts) (edgesOf points′ counts′)) where
+  drawn-back : drawnText (frame side level points′ counts′) ≡ printedWith (frame side level points counts) (negℤ (areaOf (frame side level points counts)))
+  drawn-back =
+      let f = frame side level points counts in
+      let g = frame side level points′ counts′ in
+      let table : frameTable g ≡ opposite (frameTable f) = reversed-edges-table side (edgesOf points counts) back in
+      let count : edgeCount counts′ ≡ edgeCount counts = sym (edge-count g long′) ∙ length-reversed (edgesOf points counts) back ∙ edge-count f long in
+      let area : getD (frameTable g) 0 (pos 0) ≡ negℤ (areaOf f) =
+      ap (λ l. getD l 0 (pos 0)) table ∙ entry-opposite (frameTable f) 0 ∙ ap negℤ (root f) in
+      let greys : frameGreys g ≡ frameGreys f =
+      ap (λ l. pictureIn (greyOf side) l level) table ∙ greys-opposite dimensions (frameTable f) side level in
+      ap₂ _++_ (ap₂ summaryText count area) (ap (rowsText (2 ^ level) (2 ^ level)) greys)
 
 -- ---- a text is as long as its counts say
 contour-text-length : (counts : List ℕ) (points : List ℤ) → length points ≡ 2 * edgeCount counts
@@ -74,7 +100,7 @@ sayable-means z =
     let m = and-means (leZ (pos 0) z) (ltb (natAbs z) (16 ^ coordinateWidth)) (leZ-means (pos 0) z) (ltb-means (natAbs z) (16 ^ coordinateWidth)) in
     (λ e. record { not-negative = m .0 e .0; four-digits = m .0 e .1 }, λ s. m .1 (s .not-negative, s .four-digits))
 
--- ---- a text that is a frame's, and the same reversed
+-- ---- a text that is a frame's
 module _ (t : List ℕ) (is : isFrame t ≡ true) where
   abbrev f : Frame
   f = frameOf t
@@ -85,9 +111,10 @@ module _ (t : List ℕ) (is : isFrame t ≡ true) where
   long : length (f .points) ≡ 2 * edgeCount (f .counts)
   long = written .0 .all-points
 
+  -- the same reversed
   writable : Writable (reversedFrame f)
   writable =
-      let test : ℤ → _ = λ z. leZ (pos 0) z && ltb (natAbs z) (16 ^ coordinateWidth) in
+      let test : ℤ → Bool = λ z. leZ (pos 0) z && ltb (natAbs z) (16 ^ coordinateWidth) in
       record {
         side-fits = written .0 .side-fits;
         level-fits = written .0 .level-fits;
@@ -107,34 +134,42 @@ module _ (t : List ℕ) (is : isFrame t ≡ true) where
       ∙ sym (length-append head (contourText (f .counts) (f .points)))
       ∙ ap length (written .1)
 
-  pub read-either-way : (isFrame (reversedText t) ≡ true) × (frameOf (reversedText t) ≡ reversedFrame f)
-  read-either-way = read-written (reversedFrame f) writable (subst (λ n. n ≤ textLimit) (sym same-length) (written .2))
+  pub read-reversed : (isFrame (reversedText t) ≡ true) × (frameOf (reversedText t) ≡ reversedFrame f)
+  read-reversed = read-written (reversedFrame f) writable (subst (λ n. n ≤ textLimit) (sym same-length) (written .2))
 
-  pub number-either-way : frameRefusal (reversedText t) ≡ frameRefusal t
-  number-either-way =
+  pub number-reversed : frameRefusal (reversedText t) ≡ frameRefusal t
+  number-reversed =
       let on-tile = between (pos 0) (pos (stepsPerPixel * f .side)) in
-      let number : _ → ℕ = λ inside.
+      let number : Bool → ℕ = λ inside.
       firstNo
       (question11 t ∷ question1 (f .side) ∷ question4 (f .counts) ∷ question5 (f .counts) ∷ record { number = 6; answer = inside } ∷ question7 (f .side) (f .level)
       ∷ []) in
-      ap₂ (λ b g. firstNo (record { number = 11; answer = b } ∷ outlineQuestions g)) (read-either-way .0 ∙ sym is) (read-either-way .1)
+      ap₂ (λ b g. firstNo (record { number = 11; answer = b } ∷ outlineQuestions g)) (read-reversed .0 ∙ sym is) (read-reversed .1)
       ∙ ap number (reversed-every (f .points) (f .counts) long on-tile)
 
-  root : getD (frameTable f) 0 (pos 0) ≡ areaOf f
-  root = entries-root dimensions (depthOf (f .side)) (outlineTable (depthOf (f .side)) (edgesOf (f .points) (f .counts)))
+-- ---- texts that are drawn
+is-frame : (t : List ℕ) → frameRefusal t ≡ 0 → isFrame t ≡ true
+is-frame t done = frame-refusals t .accepted .0 done .0
 
-  reversed-drawn : drawnText (reversedFrame f) ≡ printedWith f (negℤ (areaOf f))
-  reversed-drawn =
-      let table : frameTable (reversedFrame f) ≡ opposite (frameTable f) =
-      reversed-edges-table (f .side) (edgesOf (f .points) (f .counts)) (reversed-edges (f .points) (f .counts) long) in
-      ap₂ (λ area greys. summaryText (edgeCount (f .counts)) area ++ rowsText (2 ^ f .level) (2 ^ f .level) greys)
-      (ap (λ l. getD l 0 (pos 0)) table ∙ entry-opposite (frameTable f) 0 ∙ ap negℤ root)
-      (ap (λ l. pictureIn (greyOf (f .side)) l (f .level)) table ∙ greys-opposite dimensions (frameTable f) (f .side) (f .level))
+drawn-is : (t : List ℕ) → frameRefusal t ≡ 0 → outputText t ≡ printedWith (frameOf t) (areaOf (frameOf t))
+drawn-is t done = if-done _ _ done ∙ ap (printedWith (frameOf t)) (root (frameOf t))
 
-pub printed-either-way : (t : List ℕ) → frameRefusal t ≡ 0
-    → (outputText t ≡ printedWith (frameOf t) (areaOf (frameOf t))) × (outputText (reversedText t) ≡ printedWith (frameOf t) (negℤ (areaOf (frameOf t))))
-printed-either-way t done =
-    let is = frame-refusals t .accepted .0 done .0 in (
-      if-done _ _ done ∙ ap (printedWith (frameOf t)) (root t is),
-      if-done _ _ (number-either-way t is ∙ done) ∙ ap drawnText (read-either-way t is .1) ∙ reversed-drawn t is,
+pub printed-either-way : (t u : List ℕ) → frameRefusal t ≡ 0 → frameRefusal u ≡ 0 → frameOf u .side ≡ frameOf t .side → frameOf u .level ≡ frameOf t .level
+    → EdgesReversed (edgesOf (frameOf t .points) (frameOf t .counts)) (edgesOf (frameOf u .points) (frameOf u .counts))
+    → (outputText t ≡ printedWith (frameOf t) (areaOf (frameOf t))) × (outputText u ≡ printedWith (frameOf t) (negℤ (areaOf (frameOf t))))
+printed-either-way t u done done′ side level back =
+    let g = frameOf u in (
+      drawn-is t done,
+      if-done _ _ done′ ∙ ap₂ (λ s l. drawnText (frame s l (g .points) (g .counts))) side level
+          ∙ drawn-back (frameOf t .side) (frameOf t .level) (frameOf t .points) (g .points) (frameOf t .counts) (g .counts)
+          (long t (is-frame t done)) (long u (is-frame u done′)) back,
     )
+
+pub printed-reversed : (t : List ℕ) → frameRefusal t ≡ 0
+    → (outputText t ≡ printedWith (frameOf t) (areaOf (frameOf t))) × (outputText (reversedText t) ≡ printedWith (frameOf t) (negℤ (areaOf (frameOf t))))
+printed-reversed t done =
+    let is = is-frame t done in
+    let read = read-reversed t is .1 in
+    printed-either-way t (reversedText t) done (number-reversed t is ∙ done) (ap (λ g. g .side) read) (ap (λ g. g .level) read)
+    (subst (λ (g : Frame). EdgesReversed (edgesOf (frameOf t .points) (frameOf t .counts)) (edgesOf (g .points) (g .counts))) (sym read)
+    (edges-of-reversed (frameOf t .points) (frameOf t .counts) (long t is)))

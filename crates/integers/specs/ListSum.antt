@@ -9,6 +9,7 @@
 --   total-map                         the sum over the images of a list's elements
 --   tally, tally-total, tally-const,
 --   tally-perm                        a count over a list: a sum of natural numbers
+--   length-perm                       in another order a list is as long
 use mathlib.Core.Path.{_≡_, refl, sym, _∙_, ap, ap₂}
 use mathlib.Core.List.{List, [], _∷_, _++_, map, Perm, List·Permᴰ, List·Permᴰ·nil, List·Permᴰ·cons, List·Permᴰ·swap, List·Permᴰ·trans}
 use mathlib.Core.Logic.{∥∥₁-elim}
@@ -149,3 +150,6 @@ tally-const c (a ∷ l) = omega (arith, tally-const c l)
 
 pub tally-perm : {A : Type 0} (f : A → ℕ) {k l : List A} → Perm k l → tally f k ≡ tally f l
 tally-perm f {k} {l} p = ap natAbs (tally-total f k ∙ total-perm (λ a. pos (f a)) p ∙ sym (tally-total f l))
+
+pub length-perm : {A : Type 0} {k l : List A} → Perm k l → length k ≡ length l
+length-perm {A} {k} {l} p = omega (arith, tally-const 1 k, tally-const 1 l, tally-perm (λ (a : A). 1) p)

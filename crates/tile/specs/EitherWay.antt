@@ -1,11 +1,12 @@
 -- A letter traced the other way round (02, P4): "A second tracing tool that we now buy goes anticlockwise round letters and clockwise round holes."
 --
 -- Of two outlines that building accepts, let the edges of one be those of the other, each walked backwards, in whatever order (`EdgesReversed` of
--- `accuracy`, in Laws/Reversal). Then every entry has the opposite sign, and so has every figure; every grey is the same, at every level, and so is the
--- exact area's grey, by which it is measured. It is said of what the calls leave (`Outcomes`), whatever the tables held before.
+-- `accuracy`, in Laws/Reversal). Then every entry has the opposite sign, and so, as of any table and its opposite, has every figure; every grey is the
+-- same, at every level, and so is the exact area's grey, by which it is measured. It is said of what the calls leave (`Outcomes`), whatever the tables held
+-- before.
 --
--- The points of each contour in the reverse order are such an outline, and building answers the same number to it. So are contours that are walked back
--- from their first points, or begin anywhere else: laws of contours there (`contourEdges-back`, `contourEdges-rotate`).
+-- The points of each contour in the reverse order are such an outline, and building answers the same to it. A contour may also be walked back from its
+-- first point, and begin at any other of them: that its edges are then so walked are laws there (`contourEdges-back`, `contourEdges-rotate`).
 --
 -- Definitions
 --   opposite l                   a table or a picture of figures, with every sign turned
@@ -17,28 +18,30 @@
 --   opposite-cell                one cell is refused alike, and its figure is opposite
 -- Main results, of edges each walked backwards
 --   reversed-edges-table         they have the opposite table
---   reversed-edges-grey          and in every cell the same exact grey
+--   reversed-edges-exact-grey    and in every cell the same exact grey
 -- Main results, of two outlines that are accepted, the edges of one those of the other, so walked
 --   either-way-table             building leaves opposite tables
 --   either-way-greys             so every grey is the same, at every level
 --   either-way-placed-table,
 --   either-way-placed-greys      the same with placements
+--   either-way-held-edges,
 --   either-way-held-table,
---   either-way-held-greys        and of tiles that hold such contours, after whatever corrections
+--   either-way-held-greys        and of tiles that hold such contours (`Holding`), as series of corrections leave them: the records are the same too
 -- Main results, of an outline with the points of each contour in the reverse order, where there are as many points as the counts say
 --   reversed-length,
 --   reversed-every               its coordinates are as many, and a test of all of them has the same answer
---   reversed-edges,
---   reversed-placed-edges        its edges are so walked, without and with a placement
---   reversed-number,
---   reversed-placed-number       building answers the same number: it accepts both, or refuses both for the same question
+--   edges-of-reversed,
+--   edges-of-reversed-placed     its edges are so walked, without and with a placement
+--   reversed-result,
+--   reversed-placed-result       over a table as long, building answers the same: it accepts both, or refuses both for the same question
 --   reversed-table,
 --   reversed-greys               so where it accepts the outline, tables are opposite, and every grey is the same, at every level
 --   reversed-placed-table,
 --   reversed-placed-greys        the same with a placement
 -- Instances
---   a-reversed, g-reversed       01's letters B and H are A and G so reversed
---   a-from-its-first-point       A walked the other way from its first point
+--   letterA-reversed,
+--   letterG-reversed             01's letters B and H are A and G so reversed
+--   letterA-back                 A walked back from its first point
 use mathlib.Core.Path.{_≡_, refl, sym, _∙_, ap, ap₂, fun-ext, subst₂}
 use mathlib.Core.Bool.{Bool, not, _&&_, _||_}
 use mathlib.Core.List.{List, [], _∷_, map, reverse, reverse-perm, Perm·refl}
@@ -63,10 +66,9 @@ use Rattle.placement.specs.Laws.PlacedPoints.{placed-length}
 use Rattle.accuracy.specs.Outline.{contoursOf, pointsOf, through, contourEdges, outlineEdges, edgeCount}
 use Rattle.accuracy.specs.ExactArea.{denominator, exactAreaNum}
 use Rattle.accuracy.specs.OutlineTable.{outlineTable}
-use Rattle.accuracy.specs.Laws.Reversal.{EdgesReversed, outlineEdges-reverse, denominator-reversed, exactArea-reversed}
-use Rattle.accuracy.specs.Laws.Reversal.{reversed-edges-table as coefficients-opposite}
+use Rattle.accuracy.specs.Laws.Reversal.{EdgesReversed, outlineEdges-reverse, outlineTable-reversed, length-reversed, denominator-reversed, exactArea-reversed}
 use Rattle.tile.specs.Questions.{Question, depthOf, firstNo, question1, question2, question4, question5, question7, question8, question9, question10}
-use Rattle.tile.specs.Outcomes.{ifDone, edgesOf, edgesTable, buildRefusal, buildTable, placedRefusal, placedTable}
+use Rattle.tile.specs.Outcomes.{ifDone, edgesOf, edgesTable, buildRefusal, buildResult, buildTable, placedRefusal, placedResult, placedTable}
 use Rattle.tile.specs.Outcomes.{tableOf, drawRefusal, figuresPicture, greysPicture, cellRefusal, cellResult}
 use Rattle.tile.specs.DrawnFigures.{figures-drawn}
 use Rattle.tile.specs.Faithful.{figureNum}
@@ -128,11 +130,11 @@ module _ (side : ℕ) (table : List ℤ) where
 module _ (side : ℕ) (es : List Edge) {fs : List Edge} (back : EdgesReversed es fs) where
   pub reversed-edges-table : edgesTable side fs ≡ opposite (edgesTable side es)
   reversed-edges-table =
-      ap (entries dimensions (depthOf side)) (coefficients-opposite (depthOf side) es back)
+      ap (entries dimensions (depthOf side)) (outlineTable-reversed (depthOf side) es back)
       ∙ entries-opposite dimensions (depthOf side) (outlineTable (depthOf side) es)
 
-  pub reversed-edges-grey : (level cx cy : ℕ) → grey side (figureNum side fs level cx cy) (denominator fs) ≡ grey side (figureNum side es level cx cy) (denominator es)
-  reversed-edges-grey level cx cy =
+  pub reversed-edges-exact-grey : (level cx cy : ℕ) → grey side (figureNum side fs level cx cy) (denominator fs) ≡ grey side (figureNum side es level cx cy) (denominator es)
+  reversed-edges-exact-grey level cx cy =
       let area = exactAreaNum (depthOf side) es level (at cx cy) in
       let out : pos (4 ^ level) *ℤ negℤ area ≡ negℤ (pos (4 ^ level) *ℤ area) = ring (pos (4 ^ level) ∷ area ∷ []) (search read depth 40) tt in
       ap₂ (grey side) (ap (λ z. pos (4 ^ level) *ℤ z) (exactArea-reversed es back (depthOf side) level (at cx cy)) ∙ out) (denominator-reversed es back)
@@ -167,6 +169,10 @@ module _ (side : ℕ) (points : List ℤ) (counts : List ℕ) (before points′ 
 -- ---- two tiles that hold contours: each table is what building these leaves
 module _ (side : ℕ) (cs ds : List Contour) (t u : Tile) (held : HoldsContours side cs t) (held′ : HoldsContours side ds u)
     (back : EdgesReversed (outlineEdges cs) (outlineEdges ds)) where
+  pub either-way-held-edges : u .edges ≡ t .edges
+  either-way-held-edges =
+      sym (held′ .faithful ds (Perm·refl ds) .counted refl) ∙ length-reversed (outlineEdges cs) back ∙ held .faithful cs (Perm·refl cs) .counted refl
+
   pub either-way-held-table : u .table ≡ opposite (t .table)
   either-way-held-table =
       let blank = replicate (side * side) (pos 0) in
@@ -199,8 +205,8 @@ module _ (points : List ℤ) (counts : List ℕ) (long : length points ≡ 2 * e
   pub reversed-length : length (reversed points counts) ≡ 2 * edgeCount counts
   reversed-length = coordinates-length (map reverse cs) ∙ ap (λ n. 2 * edgeCount n) still-counts
 
-  pub reversed-edges : EdgesReversed (edgesOf points counts) (edgesOf (reversed points counts) counts)
-  reversed-edges =
+  pub edges-of-reversed : EdgesReversed (edgesOf points counts) (edgesOf (reversed points counts) counts)
+  edges-of-reversed =
       let read : contoursOf counts (reversed points counts) ≡ map reverse cs =
       ap (λ n. contoursOf n (reversed points counts)) (sym still-counts) ∙ contours-back (map reverse cs) in
       rw read (outlineEdges-reverse cs)
@@ -216,7 +222,7 @@ module _ (points : List ℤ) (counts : List ℕ) (long : length points ≡ 2 * e
     placed-reversed : placed placement (reversed points counts) ≡ reversed (placed placement points) counts
     placed-reversed = reverse-placed placement cs ∙ ap₂ (λ l n. reversed (placed placement l) n) same-points same-counts
 
-  pub reversed-placed-number : (placement : Placement) (side : ℕ) (before other : List ℤ) → length other ≡ length before
+  reversed-placed-number : (placement : Placement) (side : ℕ) (before other : List ℤ) → length other ≡ length before
       → placedRefusal side (reversed points counts) counts placement other ≡ placedRefusal side points counts placement before
   reversed-placed-number placement side before other e =
       let on-tile = between (pos 0) (pos (stepsPerPixel * side)) in
@@ -232,17 +238,21 @@ module _ (points : List ℤ) (counts : List ℕ) (long : length points ≡ 2 * e
       same-placed test =
           reverse-every test (contoursOf counts (placed placement points)) ∙ ap (every test) (coordinates-back counts (placed placement points) (long-placed placement) .0)
 
-  pub reversed-number : (side : ℕ) (before other : List ℤ) → length other ≡ length before
-      → buildRefusal side (reversed points counts) counts other ≡ buildRefusal side points counts before
-  reversed-number side before other e =
-      let built : (l table : List ℤ) → placedRefusal side l counts None table ≡ buildRefusal side l counts table =
-      λ l table. ap (λ b. b .number) (placed-none-as-built side l counts table .0) in
-      sym (built (reversed points counts) other) ∙ reversed-placed-number None side before other e ∙ built points before
+  pub reversed-placed-result : (placement : Placement) (side : ℕ) (before other : List ℤ) → length other ≡ length before
+      → placedResult side (reversed points counts) counts placement other ≡ placedResult side points counts placement before
+  reversed-placed-result placement side before other e =
+      ap (λ n. record { number = n; edges = ifDone n (edgeCount counts) 0 }) (reversed-placed-number placement side before other e)
 
-pub reversed-placed-edges : (points : List ℤ) (counts : List ℕ) → length points ≡ 2 * edgeCount counts → (placement : Placement)
+  pub reversed-result : (side : ℕ) (before other : List ℤ) → length other ≡ length before
+      → buildResult side (reversed points counts) counts other ≡ buildResult side points counts before
+  reversed-result side before other e =
+      sym (placed-none-as-built side (reversed points counts) counts other .0) ∙ reversed-placed-result None side before other e
+      ∙ placed-none-as-built side points counts before .0
+
+pub edges-of-reversed-placed : (points : List ℤ) (counts : List ℕ) → length points ≡ 2 * edgeCount counts → (placement : Placement)
     → EdgesReversed (edgesOf (placed placement points) counts) (edgesOf (placed placement (reversed points counts)) counts)
-reversed-placed-edges points counts long placement =
-    rw (placed-reversed points counts long placement) (reversed-edges (placed placement points) counts (long-placed points counts long placement))
+edges-of-reversed-placed points counts long placement =
+    rw (placed-reversed points counts long placement) (edges-of-reversed (placed placement points) counts (long-placed points counts long placement))
 
 -- ---- so, where the outline is accepted, over any other table that is as long
 module _ (side : ℕ) (points : List ℤ) (counts : List ℕ) (before other : List ℤ) (e : length other ≡ length before) where
@@ -251,15 +261,15 @@ module _ (side : ℕ) (points : List ℤ) (counts : List ℕ) (before other : Li
     enough = accepted side points counts before done .points-length
 
     done-reversed : buildRefusal side (reversed points counts) counts other ≡ 0
-    done-reversed = reversed-number points counts enough side before other e ∙ done
+    done-reversed = ap (λ b. b .number) (reversed-result points counts enough side before other e) ∙ done
 
     pub reversed-table : buildTable side (reversed points counts) counts other ≡ opposite (buildTable side points counts before)
-    reversed-table = either-way-table side points counts before (reversed points counts) counts other done done-reversed (reversed-edges points counts enough)
+    reversed-table = either-way-table side points counts before (reversed points counts) counts other done done-reversed (edges-of-reversed points counts enough)
 
     pub reversed-greys : (level : ℕ) (picture : List ℕ)
         → greysPicture side level (buildTable side (reversed points counts) counts other) picture
         ≡ greysPicture side level (buildTable side points counts before) picture
-    reversed-greys = either-way-greys side points counts before (reversed points counts) counts other done done-reversed (reversed-edges points counts enough)
+    reversed-greys = either-way-greys side points counts before (reversed points counts) counts other done done-reversed (edges-of-reversed points counts enough)
 
   module _ (placement : Placement) (done : placedRefusal side points counts placement before ≡ 0) where
     enough-placed : length points ≡ 2 * edgeCount counts
@@ -271,26 +281,26 @@ module _ (side : ℕ) (points : List ℤ) (counts : List ℕ) (before other : Li
     pub reversed-placed-table : placedTable side (reversed points counts) counts placement other ≡ opposite (placedTable side points counts placement before)
     reversed-placed-table =
         either-way-placed-table side points counts before (reversed points counts) counts other placement placement done done-placed
-        (reversed-placed-edges points counts enough-placed placement)
+        (edges-of-reversed-placed points counts enough-placed placement)
 
     pub reversed-placed-greys : (level : ℕ) (picture : List ℕ)
         → greysPicture side level (placedTable side (reversed points counts) counts placement other) picture
         ≡ greysPicture side level (placedTable side points counts placement before) picture
     reversed-placed-greys =
         either-way-placed-greys side points counts before (reversed points counts) counts other placement placement done done-placed
-        (reversed-placed-edges points counts enough-placed placement)
+        (edges-of-reversed-placed points counts enough-placed placement)
 
 -- ---- "B. A reversed", "H. G reversed"
-pub a-reversed : reversed (letterA .points) (one-count letterA) ≡ letterB .points
+pub letterA-reversed : reversed (letterA .points) (one-count letterA) ≡ letterB .points
 unfolding contoursOf pointsOf coordinates coordinatesOf
-a-reversed = refl
+letterA-reversed = refl
 
-pub g-reversed : reversed (letterG .points) (one-count letterG) ≡ letterH .points
+pub letterG-reversed : reversed (letterG .points) (one-count letterG) ≡ letterH .points
 unfolding contoursOf pointsOf coordinates coordinatesOf
-g-reversed = refl
+letterG-reversed = refl
 
 -- (0,0) (0,256) (256,256) (256,0)
-pub a-from-its-first-point : EdgesReversed (edgesOf (letterA .points) (one-count letterA))
+pub letterA-back : EdgesReversed (edgesOf (letterA .points) (one-count letterA))
     (edgesOf (pos 0 ∷ pos 0 ∷ pos 0 ∷ pos 256 ∷ pos 256 ∷ pos 256 ∷ pos 256 ∷ pos 0 ∷ []) (one-count letterA))
 unfolding contoursOf pointsOf through contourEdges outlineEdges
-a-from-its-first-point = reverse-perm _
+letterA-back = reverse-perm _

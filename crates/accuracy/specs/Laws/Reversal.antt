@@ -1,26 +1,27 @@
--- Reversed edges, in whatever order, have the opposite table, and opposite exact areas; and so has an outline with every contour walked the other way,
--- wherever each begins.
+-- Reversed edges, in whatever order, have the opposite table, and opposite exact areas. The edges of an outline with each contour's points backwards are
+-- such edges; and of one contour, those of one that is walked the other way from any of its points.
 --
 -- Definitions
 --   EdgesReversed es fs          the edges fs are the edges es, each walked backwards, in whatever order
 -- Main results
---   outlineTable-reverse         the reversed edges have the opposite table
 --   contourEdges-rotate          a contour that begins at another of its points has the same edges, in another order
 --   contourEdges-back            a contour walked the other way from its first point: its edges reversed, in another order
---   contourEdges-reverse         the same of its points backwards, where the first point is the last
+--   contourEdges-reverse         the same of its points backwards, so that the first comes last
 --   outlineEdges-reverse         each contour of an outline backwards
---   reversed-edges-table         edges that are reversed, in whatever order, have the opposite table
+--   outlineTable-reversed        edges that are reversed, in whatever order, have the opposite table
+--   length-reversed              they are as many
 --   denominator-reversed,
---   exactArea-reversed           and opposite exact areas, over the same denominator
---   outline-reversed             an outline with every contour walked the other way has the opposite table
+--   exactArea-reversed           and have opposite exact areas, over the same denominator
+--   outline-reversed             so an outline with the points of each contour backwards has the opposite table
 use mathlib.Core.Path.{_≡_, refl, sym, _∙_, ap, ap₂, fun-ext, subst₂}
 use mathlib.Core.List.{List, [], _∷_, _++_, map, map-append, append-assoc, append-nil, reverse as backwards, reverse-cons}
 use mathlib.Core.List.{Perm, Perm·nil, Perm·refl, Perm·cons, Perm·swap, Perm·trans, Perm·symm, Perm·append}
 use Prim.Native.Nat.{ℕ}
+use lib.ListN.{length, length-map}
 use lib.IntN.{ℤ, negsuc, negℤ, _*ℤ_}
 use Rattle.integers.specs.Ring.{read, ring}
 use Rattle.integers.specs.Fraction.{common, numer, common-perm, common-map, numer-scale, numer-perm, numer-map}
-use Rattle.integers.specs.ListSum.{all-of, total, total-cong, total-neg, total-map}
+use Rattle.integers.specs.ListSum.{all-of, length-perm, total, total-cong, total-neg, total-map}
 use Rattle.edge.specs.declared.Edge.{Edge}
 use Rattle.edge.specs.declared.Cell.{Cell as Square}
 use Rattle.edge.specs.Walk.{steps}
@@ -48,7 +49,7 @@ total-reverse f h es = total-map f reverse es ∙ total-cong (λ e. f (reverse e
 numbered-reverse : (e : Edge) (s : Square) (k : ℕ) → numbered (details (reverse e) s) k ≡ negℤ (numbered (details e s) k)
 numbered-reverse e s k = ap (λ w. numbered w k) (details-reverse e s) ∙ numbered-each negℤ refl (details e s) k
 
-pub outlineTable-reverse : (depth : ℕ) (es : List Edge) → outlineTable depth (map reverse es) ≡ negated (outlineTable depth es)
+outlineTable-reverse : (depth : ℕ) (es : List Edge) → outlineTable depth (map reverse es) ≡ negated (outlineTable depth es)
 outlineTable-reverse depth es =
     ap₂ (λ r d. record { root = r; detail = d }) (total-reverse rootTerm root-reverse es)
     (fun-ext λ j. fun-ext λ cell. fun-ext λ k. total-reverse (λ e. edgeTable depth e .detail j cell k) (λ e. numbered-reverse e (square depth j cell) k) es)
@@ -96,10 +97,13 @@ outlineEdges-reverse [] = Perm·nil
 outlineEdges-reverse (c ∷ cs) =
     rw (map-append reverse (contourEdges c) (outlineEdges cs)) (Perm·append (contourEdges-reverse c) (outlineEdges-reverse cs))
 
-pub reversed-edges-table : (depth : ℕ) (es : List Edge) {fs : List Edge} → EdgesReversed es fs → outlineTable depth fs ≡ negated (outlineTable depth es)
-reversed-edges-table depth es p = outlineTable-perm depth (Perm·symm p) ∙ outlineTable-reverse depth es
+pub outlineTable-reversed : (depth : ℕ) (es : List Edge) {fs : List Edge} → EdgesReversed es fs → outlineTable depth fs ≡ negated (outlineTable depth es)
+outlineTable-reversed depth es p = outlineTable-perm depth (Perm·symm p) ∙ outlineTable-reverse depth es
 
 module _ (es : List Edge) {fs : List Edge} (p : EdgesReversed es fs) where
+  pub length-reversed : length fs ≡ length es
+  length-reversed = length-perm p ∙ length-map es reverse
+
   pub denominator-reversed : denominator fs ≡ denominator es
   denominator-reversed = common-perm steps p ∙ common-map steps reverse es ∙ ap (λ N. common N es) (fun-ext steps-reverse)
 
@@ -115,4 +119,4 @@ module _ (es : List Edge) {fs : List Edge} (p : EdgesReversed es fs) where
 
 pub outline-reversed : (depth : ℕ) (cs : List (List Point))
     → outlineTable depth (outlineEdges (map backwards cs)) ≡ negated (outlineTable depth (outlineEdges cs))
-outline-reversed depth cs = reversed-edges-table depth (outlineEdges cs) (outlineEdges-reverse cs)
+outline-reversed depth cs = outlineTable-reversed depth (outlineEdges cs) (outlineEdges-reverse cs)

@@ -65,7 +65,7 @@ pub grey-full : {side den : ℕ} (num : ℤ) → 0 < side → 0 < den → full s
 unfolding grey abs
 grey-full num s g h = ink-full s g (pos-≤ℤ h)
 
--- as code has a figure's magnitude
+-- n is the magnitude as code has it, a natural number
 pub grey-magnitude : (side : ℕ) (f : ℤ) (n : ℕ) → n ≡ natAbs f → greyOf side f ≡ inkGrey side (pos n) 1
 unfolding grey abs
 grey-magnitude side f n e = ap (λ k. inkGrey side (pos k) 1) (sym e)

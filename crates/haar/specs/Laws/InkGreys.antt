@@ -1,11 +1,11 @@
--- 01's rule of a grey: a byte, which rises with the fraction and moves by at most one where that moves by at most a grey. Where it matters, sides and
+-- 01's rule of a grey: a byte, which does not fall as the fraction rises, and moves by at most one where that moves by at most a grey. Where it matters, sides and
 -- denominators are above 0.
 --
 -- Main results
 --   full-pos                     a tile's full figure is above 0
 --   ink-clamp, ink-byte          a grey is the rounded fraction, held; it is at most 255
 --   ink-one-apart                fractions at most a 255th of the full figure apart have greys at most one apart
---   ink-nearest                  from 0 to the full figure it is the nearest whole number, halves up
+--   ink-nearest                  from 0 to the full figure it is how many 255ths of it the fraction is, to the nearest whole number, halves up
 --   ink-half                     n and a half 255ths of the full figure have the grey n + 1, up to 255
 --   ink-full                     the full figure or more has the full grey
 use mathlib.Core.Path.{_≡_, sym, _∙_, ap, subst, subst⁻¹, subst₂}

@@ -3,7 +3,6 @@
 -- Main results
 --   entry-opposite               each entry is opposite
 --   figure-opposite              each figure is opposite
---   picture-opposite             what is made of each figure is made of the opposite one
 --   figures-opposite             a picture of figures is opposite
 --   greys-opposite               a picture of greys is the same
 --   entries-opposite             opposite coefficients have opposite entries
@@ -41,7 +40,8 @@ module _ (n : ℕ) (l : List ℤ) where
       ap (λ t. figure n t level cell) as-combined ∙ figure-linear n (negsuc 0) (stored n l) (pos 0) (stored n l) level cell
       ∙ ring (figure n (stored n l) level cell ∷ []) (search read depth 40) tt
 
-  pub picture-opposite : {A : Type 0} (g : ℤ → A) (level : ℕ) → picture n g (stored n (map negℤ l)) level ≡ picture n (λ f. g (negℤ f)) (stored n l) level
+  -- whatever a picture is made of, figures or greys, it is made of the opposite figures
+  picture-opposite : {A : Type 0} (g : ℤ → A) (level : ℕ) → picture n g (stored n (map negℤ l)) level ≡ picture n (λ f. g (negℤ f)) (stored n l) level
   picture-opposite g level = ap (tabulate (children n ^ level)) (fun-ext λ i. ap g (figure-opposite level (cellAt n (2 ^ level) i)))
 
   pub figures-opposite : (level : ℕ) → picture n (λ f. f) (stored n (map negℤ l)) level ≡ map negℤ (picture n (λ f. f) (stored n l) level)

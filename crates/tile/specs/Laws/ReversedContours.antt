@@ -1,4 +1,5 @@
--- Contours, each with its points in the reverse order: the questions are answered as they were, and a placement moves each as it moved the contour.
+-- Contours, each with its points in the reverse order: their counts, and the answer to a test of every coordinate, are as they were; and to reverse and
+-- then to place is to place and then to reverse.
 --
 -- Main results
 --   reverse-counts               each has as many points as before
