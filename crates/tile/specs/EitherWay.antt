@@ -166,7 +166,8 @@ module _ (side : ℕ) (points : List ℤ) (counts : List ℕ) (before points′ 
     either-way-placed-greys level picture =
         ap (λ t. greysPicture side level t picture) either-way-placed-table ∙ opposite-greys side (placedTable side points counts p before) level picture
 
--- ---- two tiles that hold contours: each table is what building these leaves
+-- ---- two tiles that hold contours, as building and lawful corrections leave them (`holds-built`, `series` of `SeriesTheorem`): each table is what building
+-- these leaves
 module _ (side : ℕ) (cs ds : List Contour) (t u : Tile) (held : HoldsContours side cs t) (held′ : HoldsContours side ds u)
     (back : EdgesReversed (outlineEdges cs) (outlineEdges ds)) where
   pub either-way-held-edges : u .edges ≡ t .edges
