@@ -25,5 +25,7 @@ pub mod CloseGreys
 pub mod EntryBounds
 pub mod Order
 pub mod Reversal
+-- the ends of an outline's edges are its points
+pub mod EdgeEnds
 -- and the table by the closed form of the edges' details, which computes
 pub mod ClosedTable

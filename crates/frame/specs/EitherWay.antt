@@ -33,11 +33,10 @@ use Rattle.haar.specs.Laws.Opposite.{entry-opposite, greys-opposite}
 use Rattle.haar.specs.Laws.Entries.{entries-root}
 use Rattle.accuracy.specs.Outline.{edgeCount, signedArea}
 use Rattle.accuracy.specs.OutlineTable.{outlineTable}
-use Rattle.accuracy.specs.Laws.Coordinates.{contoursOf-count}
-use Rattle.accuracy.specs.Laws.Reversal.{EdgesReversed, length-reversed}
+use Rattle.accuracy.specs.Laws.Reversal.{EdgesReversed}
 use Rattle.tile.specs.Questions.{depthOf, firstNo, question1, question4, question5, question7}
 use Rattle.tile.specs.Outcomes.{edgesOf}
-use Rattle.tile.specs.EitherWay.{opposite, reversed, reversed-length, reversed-every, edges-of-reversed, reversed-edges-table}
+use Rattle.tile.specs.EitherWay.{opposite, reversed-edges-table, either-way-count, reversed, reversed-length, reversed-every, edges-of-reversed}
 use Rattle.tile.specs.Laws.IfDone.{if-done}
 use Rattle.frame.specs.Lines.{lineText}
 use Rattle.frame.specs.Frames.{Frame, frame, headWidth, coordinateWidth, contourText, frameText, Sayable, Writable}
@@ -64,9 +63,6 @@ reversedText t = frameText (reversedFrame (frameOf t))
 root : (f : Frame) → getD (frameTable f) 0 (pos 0) ≡ areaOf f
 root f = entries-root dimensions (depthOf (f .side)) (outlineTable (depthOf (f .side)) (edgesOf (f .points) (f .counts)))
 
-edge-count : (f : Frame) → length (f .points) ≡ 2 * edgeCount (f .counts) → length (edgesOf (f .points) (f .counts)) ≡ edgeCount (f .counts)
-edge-count f long = contoursOf-count (f .counts) (f .points) (omega arith)
-
 module _ (side level : ℕ) (points points′ : List ℤ) (counts counts′ : List ℕ) (long : length points ≡ 2 * edgeCount counts)
     (long′ : length points′ ≡ 2 * edgeCount counts′) (back : EdgesReversed (edgesOf points counts) (edgesOf points′ counts′)) where
   drawn-back : drawnText (frame side level points′ counts′) ≡ printedWith (frame side level points counts) (negℤ (areaOf (frame side level points counts)))
@@ -74,12 +70,11 @@ module _ (side level : ℕ) (points points′ : List ℤ) (counts counts′ : Li
       let f = frame side level points counts in
       let g = frame side level points′ counts′ in
       let table : frameTable g ≡ opposite (frameTable f) = reversed-edges-table side (edgesOf points counts) back in
-      let count : edgeCount counts′ ≡ edgeCount counts = sym (edge-count g long′) ∙ length-reversed (edgesOf points counts) back ∙ edge-count f long in
       let area : getD (frameTable g) 0 (pos 0) ≡ negℤ (areaOf f) =
       ap (λ l. getD l 0 (pos 0)) table ∙ entry-opposite (frameTable f) 0 ∙ ap negℤ (root f) in
       let greys : frameGreys g ≡ frameGreys f =
       ap (λ l. pictureIn (greyOf side) l level) table ∙ greys-opposite dimensions (frameTable f) side level in
-      ap₂ _++_ (ap₂ summaryText count area) (ap (rowsText (2 ^ level) (2 ^ level)) greys)
+      ap₂ _++_ (ap₂ summaryText (either-way-count points counts points′ counts′ long long′ back) area) (ap (rowsText (2 ^ level) (2 ^ level)) greys)
 
 -- ---- a text is as long as its counts say
 contour-text-length : (counts : List ℕ) (points : List ℤ) → length points ≡ 2 * edgeCount counts

@@ -1,12 +1,12 @@
 -- A letter traced the other way round (02, P4): "A second tracing tool that we now buy goes anticlockwise round letters and clockwise round holes."
 --
--- Of two outlines that building accepts, let the edges of one be those of the other, each walked backwards, in whatever order (`EdgesReversed` of
--- `accuracy`, in Laws/Reversal). Then every entry has the opposite sign, and so, as of any table and its opposite, has every figure; every grey is the
--- same, at every level, and so is the exact area's grey, by which it is measured. It is said of what the calls leave (`Outcomes`), whatever the tables held
--- before.
+-- Of two outlines, let the edges of one be those of the other, each walked backwards, in whatever order (`EdgesReversed` of `accuracy`, in Laws/Reversal).
+-- Where building accepts the one it accepts the other, if that has as many points as its counts say and these pass question 4. Then every entry has the
+-- opposite sign, and so, as of any table and its opposite, has every figure; every grey is the same, at every level, and so is the exact area's grey, by
+-- which it is measured. It is said of what the calls leave (`Outcomes`), whatever the tables held before.
 --
--- The points of each contour in the reverse order are such an outline, and building answers the same to it. A contour may also be walked back from its
--- first point, and begin at any other of them: that its edges are then so walked are laws there (`contourEdges-back`, `contourEdges-rotate`).
+-- The points of each contour in the reverse order are such an outline, and building answers the same to it, whatever it answers. A contour may also be walked
+-- back from its first point, and begin at any other of them: that its edges are then so walked are laws there (`contourEdges-back`, `contourEdges-rotate`).
 --
 -- Definitions
 --   opposite l                   a table or a picture of figures, with every sign turned
@@ -19,9 +19,13 @@
 -- Main results, of edges each walked backwards
 --   reversed-edges-table         they have the opposite table
 --   reversed-edges-exact-grey    and in every cell the same exact grey
--- Main results, of two outlines that are accepted, the edges of one those of the other, so walked
---   either-way-table             building leaves opposite tables
+-- Main results, of two outlines, the edges of one those of the other, so walked
+--   either-way-count,
+--   either-way-every             they have as many edges, and a test of every coordinate has the same answer
+--   either-way-accepted          where building accepts the one, it accepts the other, over a table as long
+--   either-way-table             where it accepts both, it leaves opposite tables
 --   either-way-greys             so every grey is the same, at every level
+--   either-way-placed-accepted,
 --   either-way-placed-table,
 --   either-way-placed-greys      the same with placements
 --   either-way-held-edges,
@@ -29,7 +33,7 @@
 --   either-way-held-greys        and of tiles that hold such contours (`Holding`), as series of corrections leave them: the records are the same too
 -- Main results, of an outline with the points of each contour in the reverse order, where there are as many points as the counts say
 --   reversed-length,
---   reversed-every               its coordinates are as many, and a test of all of them has the same answer
+--   reversed-every               its coordinates are as many, and a test of every one has the same answer
 --   edges-of-reversed,
 --   edges-of-reversed-placed     its edges are so walked, without and with a placement
 --   reversed-result,
@@ -46,10 +50,11 @@ use mathlib.Core.Path.{_≡_, refl, sym, _∙_, ap, ap₂, fun-ext, subst₂}
 use mathlib.Core.Bool.{Bool, not, _&&_, _||_}
 use mathlib.Core.List.{List, [], _∷_, map, reverse, reverse-perm, Perm·refl}
 use Prim.Native.Nat.{ℕ, zero, suc, _*_, _^_}
-use lib.Dec.{eqb}
+use native.Mathlib.Omega.{arith}
+use lib.Dec.{eqb, leb}
 use lib.ListN.{length, length-map, replicate, length-replicate}
 use lib.IntN.{ℤ, pos, negℤ, _*ℤ_}
-use Rattle.integers.specs.Units.{stepsPerPixel, entryLimit}
+use Rattle.integers.specs.Units.{stepsPerPixel, mostEdges, entryLimit}
 use Rattle.integers.specs.Ring.{read, ring}
 use Rattle.integers.specs.Tests.{every, between, within-neg-same}
 use Rattle.integers.specs.Every.{every-map}
@@ -66,13 +71,15 @@ use Rattle.placement.specs.Laws.PlacedPoints.{placed-length}
 use Rattle.accuracy.specs.Outline.{contoursOf, pointsOf, through, contourEdges, outlineEdges, edgeCount}
 use Rattle.accuracy.specs.ExactArea.{denominator, exactAreaNum}
 use Rattle.accuracy.specs.OutlineTable.{outlineTable}
+use Rattle.accuracy.specs.Laws.Coordinates.{contoursOf-count}
 use Rattle.accuracy.specs.Laws.Reversal.{EdgesReversed, outlineEdges-reverse, outlineTable-reversed, length-reversed, denominator-reversed, exactArea-reversed}
-use Rattle.tile.specs.Questions.{Question, depthOf, firstNo, question1, question2, question4, question5, question7, question8, question9, question10}
+use Rattle.tile.specs.Questions.{Question, Yes, depthOf, firstNo, question1, question2, question4, question5, question7, question8, question9, question10, question12}
 use Rattle.tile.specs.Outcomes.{ifDone, edgesOf, edgesTable, buildRefusal, buildResult, buildTable, placedRefusal, placedResult, placedTable}
 use Rattle.tile.specs.Outcomes.{tableOf, drawRefusal, figuresPicture, greysPicture, cellRefusal, cellResult}
+use Rattle.tile.specs.Refusals.{building-refusals, placed-refusals, question3-means}
 use Rattle.tile.specs.DrawnFigures.{figures-drawn}
 use Rattle.tile.specs.Faithful.{figureNum}
-use Rattle.tile.specs.PlacedOutline.{placed-none-as-built}
+use Rattle.tile.specs.PlacedOutline.{placed-number, placed-none-as-built}
 use Rattle.tile.specs.Corrections.{Tile, Contour}
 use Rattle.tile.specs.Holding.{coordinatesOf, coordinates, countsOf, HoldsContours}
 use Rattle.tile.specs.Letters.{letterA, letterB, letterG, letterH, counts as one-count}
@@ -80,7 +87,7 @@ use Rattle.tile.specs.Laws.IfDone.{if-done}
 use Rattle.tile.specs.Laws.Accepted.{accepted, placed-accepted}
 use Rattle.tile.specs.Laws.BuiltTable.{built-is}
 use Rattle.tile.specs.Laws.Written.{contours-back, coordinates-length, coordinates-back}
-use Rattle.tile.specs.Laws.ReversedContours.{reverse-counts, reverse-every, reverse-placed}
+use Rattle.tile.specs.Laws.ReversedContours.{back-every, reverse-counts, reverse-placed}
 
 abbrev pub opposite : List ℤ → List ℤ
 opposite = map negℤ
@@ -140,6 +147,39 @@ module _ (side : ℕ) (es : List Edge) {fs : List Edge} (back : EdgesReversed es
       ap₂ (grey side) (ap (λ z. pos (4 ^ level) *ℤ z) (exactArea-reversed es back (depthOf side) level (at cx cy)) ∙ out) (denominator-reversed es back)
       ∙ grey-neg side (figureNum side es level cx cy) (denominator es)
 
+-- ---- two outlines, of as many points as their counts say, the edges of one those of the other, each walked backwards
+module _ (points : List ℤ) (counts : List ℕ) (points′ : List ℤ) (counts′ : List ℕ) (long : length points ≡ 2 * edgeCount counts)
+    (long′ : length points′ ≡ 2 * edgeCount counts′) (back : EdgesReversed (edgesOf points counts) (edgesOf points′ counts′)) where
+  pub either-way-count : edgeCount counts′ ≡ edgeCount counts
+  either-way-count =
+      sym (contoursOf-count counts′ points′ (omega arith)) ∙ length-reversed (edgesOf points counts) back ∙ contoursOf-count counts points (omega arith)
+
+  pub either-way-every : (test : ℤ → Bool) → every test points′ ≡ every test points
+  either-way-every test =
+      sym (ap (every test) (coordinates-back counts′ points′ long′ .0)) ∙ back-every test (contoursOf counts points) (contoursOf counts′ points′) back
+      ∙ ap (every test) (coordinates-back counts points long .0)
+
+  pub either-way-accepted : (side : ℕ) (before other : List ℤ) → buildRefusal side points counts before ≡ 0 → Yes (question4 counts′)
+      → length other ≡ length before → buildRefusal side points′ counts′ other ≡ 0
+  either-way-accepted side before other done four e =
+      let yes = building-refusals side points counts before .accepted .0 done in
+      building-refusals side points′ counts′ other .accepted .1 (
+        yes .0,
+        (
+          ap (λ n. eqb n (side * side)) e ∙ yes .1 .0,
+          (
+            four,
+            (
+              ap (λ n. leb n mostEdges) either-way-count ∙ yes .1 .1 .1 .0,
+              (
+                question3-means points′ counts′ .1 long′,
+                (either-way-every (between (pos 0) (pos (stepsPerPixel * side))) ∙ yes .1 .1 .1 .1 .1 .0, tt),
+              ),
+            ),
+          ),
+        ),
+      )
+
 -- ---- two outlines that are accepted; `before` and `other` are what the tables held
 module _ (side : ℕ) (points : List ℤ) (counts : List ℕ) (before points′ : List ℤ) (counts′ : List ℕ) (other : List ℤ) where
   module _ (done : buildRefusal side points counts before ≡ 0) (done′ : buildRefusal side points′ counts′ other ≡ 0)
@@ -165,6 +205,16 @@ module _ (side : ℕ) (points : List ℤ) (counts : List ℕ) (before points′ 
         → greysPicture side level (placedTable side points′ counts′ p′ other) picture ≡ greysPicture side level (placedTable side points counts p before) picture
     either-way-placed-greys level picture =
         ap (λ t. greysPicture side level t picture) either-way-placed-table ∙ opposite-greys side (placedTable side points counts p before) level picture
+
+pub either-way-placed-accepted : (side : ℕ) (points : List ℤ) (counts : List ℕ) (before points′ : List ℤ) (counts′ : List ℕ) (other : List ℤ) (p p′ : Placement)
+    → placedRefusal side points counts p before ≡ 0 → EdgesReversed (edgesOf (placed p points) counts) (edgesOf (placed p′ points′) counts′)
+    → Yes (question4 counts′) → length points′ ≡ 2 * edgeCount counts′ → Yes (question12 p′ points′) → length other ≡ length before
+    → placedRefusal side points′ counts′ p′ other ≡ 0
+either-way-placed-accepted side points counts before points′ counts′ other p p′ done back four long′ movable e =
+    let asked = placed-refusals side points counts p before .accepted .0 done .1 .1 .1 .1 .1 .0 in
+    placed-number side points′ counts′ other p′ movable
+    ∙ either-way-accepted (placed p points) counts (placed p′ points′) counts′ (placed-accepted side points counts p before done .points-length)
+    (placed-length p′ points′ ∙ long′) back side before other (sym (placed-number side points counts before p asked) ∙ done) four e
 
 -- ---- two tiles that hold contours, as building and lawful corrections leave them (`holds-built`, `series` of `SeriesTheorem`): each table is what building
 -- these leaves
@@ -213,47 +263,43 @@ module _ (points : List ℤ) (counts : List ℕ) (long : length points ≡ 2 * e
       rw read (outlineEdges-reverse cs)
 
   pub reversed-every : (test : ℤ → Bool) → every test (reversed points counts) ≡ every test points
-  reversed-every test = reverse-every test cs ∙ ap (every test) same-points
+  reversed-every = either-way-every points counts (reversed points counts) counts long reversed-length edges-of-reversed
 
-  module _ (placement : Placement) where
-    long-placed : length (placed placement points) ≡ 2 * edgeCount counts
-    long-placed = placed-length placement points ∙ long
+module _ (points : List ℤ) (counts : List ℕ) (long : length points ≡ 2 * edgeCount counts) (placement : Placement) where
+  long-placed : length (placed placement points) ≡ 2 * edgeCount counts
+  long-placed = placed-length placement points ∙ long
 
-    -- reversed as they are handed over, and then placed
-    placed-reversed : placed placement (reversed points counts) ≡ reversed (placed placement points) counts
-    placed-reversed = reverse-placed placement cs ∙ ap₂ (λ l n. reversed (placed placement l) n) same-points same-counts
+  -- reversed as they are handed over, and then placed
+  placed-reversed : placed placement (reversed points counts) ≡ reversed (placed placement points) counts
+  placed-reversed =
+      reverse-placed placement (contoursOf counts points)
+      ∙ ap₂ (λ l n. reversed (placed placement l) n) (same-points points counts long) (same-counts points counts long)
 
-  reversed-placed-number : (placement : Placement) (side : ℕ) (before other : List ℤ) → length other ≡ length before
-      → placedRefusal side (reversed points counts) counts placement other ≡ placedRefusal side points counts placement before
-  reversed-placed-number placement side before other e =
-      let on-tile = between (pos 0) (pos (stepsPerPixel * side)) in
-      let number : ℕ → ℕ → Bool → Bool → ℕ = λ entries coordinates movable inside.
-      firstNo
-      (question1 side ∷ record { number = 2; answer = eqb entries (side * side) } ∷ question4 counts ∷ question5 counts
-      ∷ record { number = 3; answer = eqb coordinates (2 * edgeCount counts) }
-      ∷ record { number = 12; answer = not (isMoving placement) || (floatsUsable placement && movable) } ∷ record { number = 6; answer = inside } ∷ []) in
-      ap₂ (λ m n. number m n (every isMovable (reversed points counts)) (every on-tile (placed placement (reversed points counts)))) e (reversed-length ∙ sym long)
-      ∙ ap₂ (number (length before) (length points)) (reversed-every isMovable) (ap (every on-tile) (placed-reversed placement) ∙ same-placed on-tile)
-    where
-      same-placed : (test : ℤ → Bool) → every test (reversed (placed placement points) counts) ≡ every test (placed placement points)
-      same-placed test =
-          reverse-every test (contoursOf counts (placed placement points)) ∙ ap (every test) (coordinates-back counts (placed placement points) (long-placed placement) .0)
+  pub edges-of-reversed-placed : EdgesReversed (edgesOf (placed placement points) counts) (edgesOf (placed placement (reversed points counts)) counts)
+  edges-of-reversed-placed = rw placed-reversed (edges-of-reversed (placed placement points) counts long-placed)
 
-  pub reversed-placed-result : (placement : Placement) (side : ℕ) (before other : List ℤ) → length other ≡ length before
-      → placedResult side (reversed points counts) counts placement other ≡ placedResult side points counts placement before
-  reversed-placed-result placement side before other e =
-      ap (λ n. record { number = n; edges = ifDone n (edgeCount counts) 0 }) (reversed-placed-number placement side before other e)
+  module _ (side : ℕ) (before other : List ℤ) (e : length other ≡ length before) where
+    reversed-placed-number : placedRefusal side (reversed points counts) counts placement other ≡ placedRefusal side points counts placement before
+    reversed-placed-number =
+        let on-tile = between (pos 0) (pos (stepsPerPixel * side)) in
+        let number : ℕ → ℕ → Bool → Bool → ℕ = λ entries coordinates movable inside.
+        firstNo
+        (question1 side ∷ record { number = 2; answer = eqb entries (side * side) } ∷ question4 counts ∷ question5 counts
+        ∷ record { number = 3; answer = eqb coordinates (2 * edgeCount counts) }
+        ∷ record { number = 12; answer = not (isMoving placement) || (floatsUsable placement && movable) } ∷ record { number = 6; answer = inside } ∷ []) in
+        ap₂ (λ m n. number m n (every isMovable (reversed points counts)) (every on-tile (placed placement (reversed points counts)))) e
+        (reversed-length points counts long ∙ sym long)
+        ∙ ap₂ (number (length before) (length points)) (reversed-every points counts long isMovable)
+        (ap (every on-tile) placed-reversed ∙ reversed-every (placed placement points) counts long-placed on-tile)
 
-  pub reversed-result : (side : ℕ) (before other : List ℤ) → length other ≡ length before
-      → buildResult side (reversed points counts) counts other ≡ buildResult side points counts before
-  reversed-result side before other e =
-      sym (placed-none-as-built side (reversed points counts) counts other .0) ∙ reversed-placed-result None side before other e
-      ∙ placed-none-as-built side points counts before .0
+    pub reversed-placed-result : placedResult side (reversed points counts) counts placement other ≡ placedResult side points counts placement before
+    reversed-placed-result = ap (λ n. record { number = n; edges = ifDone n (edgeCount counts) 0 }) reversed-placed-number
 
-pub edges-of-reversed-placed : (points : List ℤ) (counts : List ℕ) → length points ≡ 2 * edgeCount counts → (placement : Placement)
-    → EdgesReversed (edgesOf (placed placement points) counts) (edgesOf (placed placement (reversed points counts)) counts)
-edges-of-reversed-placed points counts long placement =
-    rw (placed-reversed points counts long placement) (edges-of-reversed (placed placement points) counts (long-placed points counts long placement))
+pub reversed-result : (points : List ℤ) (counts : List ℕ) → length points ≡ 2 * edgeCount counts → (side : ℕ) (before other : List ℤ)
+    → length other ≡ length before → buildResult side (reversed points counts) counts other ≡ buildResult side points counts before
+reversed-result points counts long side before other e =
+    sym (placed-none-as-built side (reversed points counts) counts other .0) ∙ reversed-placed-result points counts long None side before other e
+    ∙ placed-none-as-built side points counts before .0
 
 -- ---- so, where the outline is accepted, over any other table that is as long
 module _ (side : ℕ) (points : List ℤ) (counts : List ℕ) (before other : List ℤ) (e : length other ≡ length before) where

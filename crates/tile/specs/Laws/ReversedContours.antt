@@ -1,20 +1,21 @@
--- Contours, each with its points in the reverse order: their counts, and the answer to a test of every coordinate, are as they were; and to reverse and
--- then to place is to place and then to reverse.
+-- Contours traced the other way round: a test of every coordinate has the same answer. With the points of each in the reverse order their counts are as they
+-- were; and to reverse and then to place is to place and then to reverse.
 --
 -- Main results
 --   reverse-counts               each has as many points as before
---   reverse-every                a test of every coordinate has the same answer
+--   back-every                   where the edges are walked backwards, in whatever order, a test of every coordinate has the same answer
 --   reverse-placed               reversed and then placed they are as placed and then reversed
 use mathlib.Core.Path.{_≡_, refl, sym, _∙_, ap, ap₂, fun-ext}
 use mathlib.Core.Bool.{Bool, _&&_, and-assoc}
-use mathlib.Core.List.{List, [], _∷_, _++_, map, map-append, map-map, reverse, reverse-cons, reverse-perm}
+use mathlib.Core.List.{List, [], _∷_, _++_, map, map-append, map-map, reverse, reverse-cons}
 use lib.ListN.{length, length-reverse, length-map}
 use lib.IntN.{ℤ}
 use Rattle.integers.specs.Tests.{every}
-use Rattle.integers.specs.Every.{every-map, every-perm}
 use Rattle.placement.specs.declared.Placement.{Placement}
 use Rattle.placement.specs.Placed.{acrossOf, downOf, placed}
-use Rattle.accuracy.specs.Outline.{Point, contoursOf}
+use Rattle.accuracy.specs.Outline.{Point, contoursOf, outlineEdges}
+use Rattle.accuracy.specs.Laws.Reversal.{EdgesReversed}
+use Rattle.accuracy.specs.Laws.EdgeEnds.{every-reversed}
 use Rattle.tile.specs.Corrections.{Contour}
 use Rattle.tile.specs.Holding.{coordinatesOf, coordinates, countsOf}
 use Rattle.tile.specs.Laws.Written.{contours-back, coordinates-asked}
@@ -22,22 +23,19 @@ use Rattle.tile.specs.Laws.Written.{contours-back, coordinates-asked}
 pub reverse-counts : (cs : List Contour) → countsOf (map reverse cs) ≡ countsOf cs
 reverse-counts cs = map-map length reverse cs ∙ ap (λ f. map f cs) (fun-ext length-reverse)
 
--- ---- a test of every coordinate is one of every point, and their order does not matter
+-- ---- a test of every coordinate is one of every point
 by-points : (test : ℤ → Bool) (c : Contour) → every test (coordinatesOf c) ≡ every (λ p. test (p .x) && test (p .y)) c
 unfolding coordinatesOf
 by-points test [] = refl
 by-points test (p ∷ c) =
     sym (and-assoc (test (p .x)) (test (p .y)) (every test (coordinatesOf c))) ∙ ap (λ b. test (p .x) && test (p .y) && b) (by-points test c)
 
-module _ (test : ℤ → Bool) where
-  reverse-contour : (c : Contour) → every test (coordinatesOf (reverse c)) ≡ every test (coordinatesOf c)
-  reverse-contour c =
-      by-points test (reverse c) ∙ every-perm (λ (p : Point). test (p .x) && test (p .y)) (reverse-perm c) ∙ sym (by-points test c)
-
-  pub reverse-every : (cs : List Contour) → every test (coordinates (map reverse cs)) ≡ every test (coordinates cs)
-  reverse-every cs =
-      coordinates-asked test (map reverse cs) ∙ every-map (λ c. every test (coordinatesOf c)) reverse cs
-      ∙ ap (λ f. every f cs) (fun-ext reverse-contour) ∙ sym (coordinates-asked test cs)
+pub back-every : (test : ℤ → Bool) (cs ds : List Contour) → EdgesReversed (outlineEdges cs) (outlineEdges ds)
+    → every test (coordinates ds) ≡ every test (coordinates cs)
+back-every test cs ds back =
+    let all : (es : List Contour) → every test (coordinates es) ≡ every (every λ (p : Point). test (p .x) && test (p .y)) es =
+    λ es. coordinates-asked test es ∙ ap (λ f. every f es) (fun-ext (by-points test)) in
+    all ds ∙ every-reversed (λ (p : Point). test (p .x) && test (p .y)) cs ds back ∙ sym (all cs)
 
 -- ---- a placement moves each point by itself
 module _ (p : Placement) where
