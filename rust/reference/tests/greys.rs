@@ -68,16 +68,16 @@ fn negated_tables_look_alike() {
     assert!(seen > 1000, "only {seen} shades of figures below zero");
 }
 
-/// An outline and the same with each contour traced the other way have the same
-/// greys at every level, drawn and exact, and opposite figures, in a picture and
-/// alone.
+/// An outline and the same with each contour traced the other way, from any of
+/// its points, have the same greys at every level, drawn and exact, and opposite
+/// figures, in a picture and alone.
 #[test]
 fn reversed_outlines_look_alike() {
     let mut random = Random(32);
     let (mut seen, mut mixed) = (0, 0);
     for _ in 0..200 {
         let outline = random.outline();
-        let reversed = outline.reversed();
+        let reversed = outline.reversed().begun_anywhere(&mut random);
         let side = outline.side;
         let table =
             |outline: &Outline| build(&Spec, side, &outline.points, &outline.counts, &outline.noughts()).unwrap().1;

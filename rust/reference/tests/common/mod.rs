@@ -29,11 +29,20 @@ impl Outline {
 
     /// The outline with each contour run the other way.
     pub fn reversed(&self) -> Outline {
+        self.with_each_contour(reverse)
+    }
+
+    /// The outline with each contour begun at some point of it.
+    pub fn begun_anywhere(&self, random: &mut Random) -> Outline {
+        self.with_each_contour(|contour| contour.rotate_left(2 * random.below(contour.len() as i64 / 2) as usize))
+    }
+
+    fn with_each_contour(&self, mut change: impl FnMut(&mut [i64])) -> Outline {
         let mut other = self.clone();
         let mut rest = &mut other.points[..];
         for &count in &self.counts {
             let (contour, after) = rest.split_at_mut(2 * count as usize);
-            reverse(contour);
+            change(contour);
             rest = after;
         }
         other
