@@ -36,7 +36,8 @@ use Rattle.accuracy.specs.OutlineTable.{outlineTable}
 use Rattle.accuracy.specs.Laws.Reversal.{EdgesReversed}
 use Rattle.tile.specs.Questions.{depthOf, firstNo, question1, question4, question5, question7}
 use Rattle.tile.specs.Outcomes.{edgesOf}
-use Rattle.tile.specs.EitherWay.{opposite, reversed-edges-table, either-way-count, reversed, reversed-length, reversed-every, edges-of-reversed}
+use Rattle.tile.specs.EitherWay.{opposite, reversed-edges-table, either-way-count}
+use Rattle.tile.specs.ReversedOutline.{reversed, reversed-length, reversed-every, edges-of-reversed}
 use Rattle.tile.specs.Laws.IfDone.{if-done}
 use Rattle.frame.specs.Lines.{lineText}
 use Rattle.frame.specs.Frames.{Frame, frame, headWidth, coordinateWidth, contourText, frameText, Sayable, Writable}

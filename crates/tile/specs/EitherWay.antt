@@ -5,12 +5,11 @@
 -- opposite sign, and so, as of any table and its opposite, has every figure; every grey is the same, at every level, and so is the exact area's grey, by
 -- which it is measured. It is said of what the calls leave (`Outcomes`), whatever the tables held before.
 --
--- The points of each contour in the reverse order are such an outline, and building answers the same to it, whatever it answers. A contour may also be walked
--- back from its first point, and begin at any other of them: that its edges are then so walked are laws there (`contourEdges-back`, `contourEdges-rotate`).
+-- The points of each contour in the reverse order are such an outline (`ReversedOutline`). A contour may also be walked back from its first point, and begin
+-- at any other of them: that its edges are then so walked are laws there (`contourEdges-back`, `contourEdges-rotate`).
 --
 -- Definitions
 --   opposite l                   a table or a picture of figures, with every sign turned
---   reversed points counts       the points of an outline, each contour's in the reverse order
 -- Main results, of any table and its opposite
 --   opposite-number              a picture of the one is refused exactly where one of the other is, by the same number
 --   opposite-greys               their greys are the same
@@ -31,24 +30,11 @@
 --   either-way-held-edges,
 --   either-way-held-table,
 --   either-way-held-greys        and of tiles that hold such contours (`Holding`), as series of corrections leave them: the records are the same too
--- Main results, of an outline with the points of each contour in the reverse order, where there are as many points as the counts say
---   reversed-length,
---   reversed-every               its coordinates are as many, and a test of every one has the same answer
---   edges-of-reversed,
---   edges-of-reversed-placed     its edges are so walked, without and with a placement
---   reversed-result,
---   reversed-placed-result       over a table as long, building answers the same: it accepts both, or refuses both for the same question
---   reversed-table,
---   reversed-greys               so where it accepts the outline, tables are opposite, and every grey is the same, at every level
---   reversed-placed-table,
---   reversed-placed-greys        the same with a placement
--- Instances
---   letterA-reversed,
---   letterG-reversed             01's letters B and H are A and G so reversed
---   letterA-back                 A walked back from its first point
+-- Instance
+--   letterA-back                 01's letter A walked back from its first point
 use mathlib.Core.Path.{_≡_, refl, sym, _∙_, ap, ap₂, fun-ext, subst₂}
-use mathlib.Core.Bool.{Bool, not, _&&_, _||_}
-use mathlib.Core.List.{List, [], _∷_, map, reverse, reverse-perm, Perm·refl}
+use mathlib.Core.Bool.{Bool}
+use mathlib.Core.List.{List, [], _∷_, map, reverse-perm, Perm·refl}
 use Prim.Native.Nat.{ℕ, zero, suc, _*_, _^_}
 use native.Mathlib.Omega.{arith}
 use lib.Dec.{eqb, leb}
@@ -65,35 +51,31 @@ use Rattle.haar.specs.Plane.{dimensions, at, figureIn}
 use Rattle.haar.specs.Laws.Greys.{grey-neg}
 use Rattle.haar.specs.Laws.Opposite.{figure-opposite, figures-opposite, greys-opposite, entries-opposite}
 use Rattle.placement.specs.declared.Placement.{Placement}
-use Rattle.placement.specs.declared.Placement.the-variants.{None}
-use Rattle.placement.specs.Placed.{placed, isMoving, floatsUsable, isMovable}
+use Rattle.placement.specs.Placed.{placed}
 use Rattle.placement.specs.Laws.PlacedPoints.{placed-length}
 use Rattle.accuracy.specs.Outline.{contoursOf, pointsOf, through, contourEdges, outlineEdges, edgeCount}
 use Rattle.accuracy.specs.ExactArea.{denominator, exactAreaNum}
 use Rattle.accuracy.specs.OutlineTable.{outlineTable}
 use Rattle.accuracy.specs.Laws.Coordinates.{contoursOf-count}
-use Rattle.accuracy.specs.Laws.Reversal.{EdgesReversed, outlineEdges-reverse, outlineTable-reversed, length-reversed, denominator-reversed, exactArea-reversed}
-use Rattle.tile.specs.Questions.{Question, Yes, depthOf, firstNo, question1, question2, question4, question5, question7, question8, question9, question10, question12}
-use Rattle.tile.specs.Outcomes.{ifDone, edgesOf, edgesTable, buildRefusal, buildResult, buildTable, placedRefusal, placedResult, placedTable}
+use Rattle.accuracy.specs.Laws.Reversal.{EdgesReversed, outlineTable-reversed, length-reversed, denominator-reversed, exactArea-reversed}
+use Rattle.tile.specs.Questions.{Question, Yes, depthOf, firstNo, question1, question2, question4, question7, question8, question9, question10, question12}
+use Rattle.tile.specs.Outcomes.{ifDone, edgesOf, edgesTable, buildRefusal, buildTable, placedRefusal, placedTable}
 use Rattle.tile.specs.Outcomes.{tableOf, drawRefusal, figuresPicture, greysPicture, cellRefusal, cellResult}
 use Rattle.tile.specs.Refusals.{building-refusals, placed-refusals, question3-means}
 use Rattle.tile.specs.DrawnFigures.{figures-drawn}
 use Rattle.tile.specs.Faithful.{figureNum}
-use Rattle.tile.specs.PlacedOutline.{placed-number, placed-none-as-built}
+use Rattle.tile.specs.PlacedOutline.{placed-number}
 use Rattle.tile.specs.Corrections.{Tile, Contour}
-use Rattle.tile.specs.Holding.{coordinatesOf, coordinates, countsOf, HoldsContours}
-use Rattle.tile.specs.Letters.{letterA, letterB, letterG, letterH, counts as one-count}
+use Rattle.tile.specs.Holding.{coordinates, countsOf, HoldsContours}
+use Rattle.tile.specs.Letters.{letterA, counts as one-count}
 use Rattle.tile.specs.Laws.IfDone.{if-done}
 use Rattle.tile.specs.Laws.Accepted.{accepted, placed-accepted}
 use Rattle.tile.specs.Laws.BuiltTable.{built-is}
-use Rattle.tile.specs.Laws.Written.{contours-back, coordinates-length, coordinates-back}
-use Rattle.tile.specs.Laws.ReversedContours.{back-every, reverse-counts, reverse-placed}
+use Rattle.tile.specs.Laws.Written.{contours-back, coordinates-back}
+use Rattle.tile.specs.Laws.ReversedContours.{back-every}
 
 abbrev pub opposite : List ℤ → List ℤ
 opposite = map negℤ
-
-abbrev pub reversed : List ℤ → List ℕ → List ℤ
-reversed points counts = coordinates (map reverse (contoursOf counts points))
 
 -- ---- any table, and the opposite one: questions 2 and 9 are answered alike
 module _ (side : ℕ) (table : List ℤ) where
@@ -238,113 +220,6 @@ module _ (side : ℕ) (cs ds : List Contour) (t u : Tile) (held : HoldsContours 
   pub either-way-held-greys : (level : ℕ) (picture : List ℕ) → greysPicture side level (u .table) picture ≡ greysPicture side level (t .table) picture
   either-way-held-greys level picture =
       ap (λ l. greysPicture side level l picture) either-way-held-table ∙ opposite-greys side (t .table) level picture
-
--- ---- the points of each contour in the reverse order, where question 3 is answered yes
-module _ (points : List ℤ) (counts : List ℕ) (long : length points ≡ 2 * edgeCount counts) where
-  abbrev cs : List Contour
-  cs = contoursOf counts points
-
-  same-points : coordinates cs ≡ points
-  same-points = coordinates-back counts points long .0
-
-  same-counts : countsOf cs ≡ counts
-  same-counts = coordinates-back counts points long .1
-
-  still-counts : countsOf (map reverse cs) ≡ counts
-  still-counts = reverse-counts cs ∙ same-counts
-
-  pub reversed-length : length (reversed points counts) ≡ 2 * edgeCount counts
-  reversed-length = coordinates-length (map reverse cs) ∙ ap (λ n. 2 * edgeCount n) still-counts
-
-  pub edges-of-reversed : EdgesReversed (edgesOf points counts) (edgesOf (reversed points counts) counts)
-  edges-of-reversed =
-      let read : contoursOf counts (reversed points counts) ≡ map reverse cs =
-      ap (λ n. contoursOf n (reversed points counts)) (sym still-counts) ∙ contours-back (map reverse cs) in
-      rw read (outlineEdges-reverse cs)
-
-  pub reversed-every : (test : ℤ → Bool) → every test (reversed points counts) ≡ every test points
-  reversed-every = either-way-every points counts (reversed points counts) counts long reversed-length edges-of-reversed
-
-module _ (points : List ℤ) (counts : List ℕ) (long : length points ≡ 2 * edgeCount counts) (placement : Placement) where
-  long-placed : length (placed placement points) ≡ 2 * edgeCount counts
-  long-placed = placed-length placement points ∙ long
-
-  -- reversed as they are handed over, and then placed
-  placed-reversed : placed placement (reversed points counts) ≡ reversed (placed placement points) counts
-  placed-reversed =
-      reverse-placed placement (contoursOf counts points)
-      ∙ ap₂ (λ l n. reversed (placed placement l) n) (same-points points counts long) (same-counts points counts long)
-
-  pub edges-of-reversed-placed : EdgesReversed (edgesOf (placed placement points) counts) (edgesOf (placed placement (reversed points counts)) counts)
-  edges-of-reversed-placed = rw placed-reversed (edges-of-reversed (placed placement points) counts long-placed)
-
-  module _ (side : ℕ) (before other : List ℤ) (e : length other ≡ length before) where
-    reversed-placed-number : placedRefusal side (reversed points counts) counts placement other ≡ placedRefusal side points counts placement before
-    reversed-placed-number =
-        let on-tile = between (pos 0) (pos (stepsPerPixel * side)) in
-        let number : ℕ → ℕ → Bool → Bool → ℕ = λ entries coordinates movable inside.
-        firstNo
-        (question1 side ∷ record { number = 2; answer = eqb entries (side * side) } ∷ question4 counts ∷ question5 counts
-        ∷ record { number = 3; answer = eqb coordinates (2 * edgeCount counts) }
-        ∷ record { number = 12; answer = not (isMoving placement) || (floatsUsable placement && movable) } ∷ record { number = 6; answer = inside } ∷ []) in
-        ap₂ (λ m n. number m n (every isMovable (reversed points counts)) (every on-tile (placed placement (reversed points counts)))) e
-        (reversed-length points counts long ∙ sym long)
-        ∙ ap₂ (number (length before) (length points)) (reversed-every points counts long isMovable)
-        (ap (every on-tile) placed-reversed ∙ reversed-every (placed placement points) counts long-placed on-tile)
-
-    pub reversed-placed-result : placedResult side (reversed points counts) counts placement other ≡ placedResult side points counts placement before
-    reversed-placed-result = ap (λ n. record { number = n; edges = ifDone n (edgeCount counts) 0 }) reversed-placed-number
-
-pub reversed-result : (points : List ℤ) (counts : List ℕ) → length points ≡ 2 * edgeCount counts → (side : ℕ) (before other : List ℤ)
-    → length other ≡ length before → buildResult side (reversed points counts) counts other ≡ buildResult side points counts before
-reversed-result points counts long side before other e =
-    sym (placed-none-as-built side (reversed points counts) counts other .0) ∙ reversed-placed-result points counts long None side before other e
-    ∙ placed-none-as-built side points counts before .0
-
--- ---- so, where the outline is accepted, over any other table that is as long
-module _ (side : ℕ) (points : List ℤ) (counts : List ℕ) (before other : List ℤ) (e : length other ≡ length before) where
-  module _ (done : buildRefusal side points counts before ≡ 0) where
-    enough : length points ≡ 2 * edgeCount counts
-    enough = accepted side points counts before done .points-length
-
-    done-reversed : buildRefusal side (reversed points counts) counts other ≡ 0
-    done-reversed = ap (λ b. b .number) (reversed-result points counts enough side before other e) ∙ done
-
-    pub reversed-table : buildTable side (reversed points counts) counts other ≡ opposite (buildTable side points counts before)
-    reversed-table = either-way-table side points counts before (reversed points counts) counts other done done-reversed (edges-of-reversed points counts enough)
-
-    pub reversed-greys : (level : ℕ) (picture : List ℕ)
-        → greysPicture side level (buildTable side (reversed points counts) counts other) picture
-        ≡ greysPicture side level (buildTable side points counts before) picture
-    reversed-greys = either-way-greys side points counts before (reversed points counts) counts other done done-reversed (edges-of-reversed points counts enough)
-
-  module _ (placement : Placement) (done : placedRefusal side points counts placement before ≡ 0) where
-    enough-placed : length points ≡ 2 * edgeCount counts
-    enough-placed = sym (placed-length placement points) ∙ placed-accepted side points counts placement before done .points-length
-
-    done-placed : placedRefusal side (reversed points counts) counts placement other ≡ 0
-    done-placed = reversed-placed-number points counts enough-placed placement side before other e ∙ done
-
-    pub reversed-placed-table : placedTable side (reversed points counts) counts placement other ≡ opposite (placedTable side points counts placement before)
-    reversed-placed-table =
-        either-way-placed-table side points counts before (reversed points counts) counts other placement placement done done-placed
-        (edges-of-reversed-placed points counts enough-placed placement)
-
-    pub reversed-placed-greys : (level : ℕ) (picture : List ℕ)
-        → greysPicture side level (placedTable side (reversed points counts) counts placement other) picture
-        ≡ greysPicture side level (placedTable side points counts placement before) picture
-    reversed-placed-greys =
-        either-way-placed-greys side points counts before (reversed points counts) counts other placement placement done done-placed
-        (edges-of-reversed-placed points counts enough-placed placement)
-
--- ---- "B. A reversed", "H. G reversed"
-pub letterA-reversed : reversed (letterA .points) (one-count letterA) ≡ letterB .points
-unfolding contoursOf pointsOf coordinates coordinatesOf
-letterA-reversed = refl
-
-pub letterG-reversed : reversed (letterG .points) (one-count letterG) ≡ letterH .points
-unfolding contoursOf pointsOf coordinates coordinatesOf
-letterG-reversed = refl
 
 -- (0,0) (0,256) (256,256) (256,0)
 pub letterA-back : EdgesReversed (edgesOf (letterA .points) (one-count letterA))

@@ -34,8 +34,9 @@ pub mod SeriesTheorem
 pub mod NotRefused
 -- ---- 01's letters
 pub mod Letters
--- ---- 02's wrong-handed tracing: a letter and the same one traced the other way round have the same greys
+-- ---- 02's wrong-handed tracing: a letter and the same one traced the other way round have the same greys; with the points in the reverse order
 pub mod EitherWay
+pub mod ReversedOutline
 -- ---- what inner functions answer
 pub mod Inner
 -- ---- and the search behind question 9 (02, P2)
