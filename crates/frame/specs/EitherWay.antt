@@ -1,7 +1,9 @@
--- A frame traced the other way round (02, P4). Of two texts of one side and level that the program draws, let the edges of one outline be those of the
--- other, each walked backwards, in whatever order: the same edge count is printed for both, opposite signed areas and the same greys.
+-- A frame traced the other way round (02, P4). Of two frames' texts, of one side and level, let the edges of one outline be those of the other, each walked
+-- backwards, in whatever order. Where the one is drawn, so is the other, if its counts pass question 4; the same edge count is printed for both, opposite
+-- signed areas and the same greys.
 --
--- The text with the points of each contour in the reverse order is such a text, and is refused where the text is, by the same number.
+-- Of a text that is a frame's, and so not answered 11, the text with the points of each contour in the reverse order is such a text, and is refused where the
+-- text is, by the same number.
 --
 -- Definitions
 --   areaOf f                     the signed area of a frame's outline
@@ -9,7 +11,8 @@
 --   reversedFrame f              the frame with each contour's points in the reverse order
 --   reversedText t               the text of the frame that t says, so reversed
 -- Main results
---   printed-either-way           what is printed of two such texts differs in the area alone, which is opposite
+--   drawn-either-way             where one such text is drawn, so is the other, whose counts pass question 4
+--   printed-either-way           what is printed of them differs in the area alone, which is opposite
 --   read-reversed                of a text that is a frame's, the reversed text is that of the reversed frame
 --   number-reversed              both are drawn, or both refused by the same number
 --   printed-reversed             where they are drawn, what is printed of them so differs
@@ -19,12 +22,12 @@ use mathlib.Core.List.{List, [], _∷_, _++_, map}
 use mathlib.Core.Logic.{_↔_}
 use Prim.Native.Nat.{ℕ, _+_, _*_, _^_, _≤_}
 use native.Mathlib.Omega.{arith}
-use lib.Dec.{ltb}
+use lib.Dec.{leb, ltb}
 use lib.ListN.{length, getD, take, drop, length-append, length-drop, length-map}
 use lib.Seq.{length-take-le}
 use lib.IntN.{ℤ, pos, negℤ, natAbs}
 use lib.Signed.{leZ}
-use Rattle.integers.specs.Units.{stepsPerPixel, textLimit}
+use Rattle.integers.specs.Units.{stepsPerPixel, mostEdges, textLimit}
 use Rattle.integers.specs.ListSum.{tally}
 use Rattle.integers.specs.Tests.{between, and-means, every-means, leZ-means, ltb-means}
 use Rattle.haar.specs.Greys.{greyOf}
@@ -34,9 +37,9 @@ use Rattle.haar.specs.Laws.Entries.{entries-root}
 use Rattle.accuracy.specs.Outline.{edgeCount, signedArea}
 use Rattle.accuracy.specs.OutlineTable.{outlineTable}
 use Rattle.accuracy.specs.Laws.Reversal.{EdgesReversed}
-use Rattle.tile.specs.Questions.{depthOf, firstNo, question1, question4, question5, question7}
+use Rattle.tile.specs.Questions.{Yes, depthOf, firstNo, question1, question4, question5, question6, question7}
 use Rattle.tile.specs.Outcomes.{edgesOf}
-use Rattle.tile.specs.EitherWay.{opposite, reversed-edges-table, either-way-count}
+use Rattle.tile.specs.EitherWay.{opposite, reversed-edges-table, either-way-count, either-way-every}
 use Rattle.tile.specs.ReversedOutline.{reversed, reversed-length, reversed-every, edges-of-reversed}
 use Rattle.tile.specs.Laws.IfDone.{if-done}
 use Rattle.frame.specs.Lines.{lineText}
@@ -149,6 +152,33 @@ is-frame t done = frame-refusals t .accepted .0 done .0
 
 drawn-is : (t : List ℕ) → frameRefusal t ≡ 0 → outputText t ≡ printedWith (frameOf t) (areaOf (frameOf t))
 drawn-is t done = if-done _ _ done ∙ ap (printedWith (frameOf t)) (root (frameOf t))
+
+pub drawn-either-way : (t u : List ℕ) → frameRefusal t ≡ 0 → isFrame u ≡ true → frameOf u .side ≡ frameOf t .side → frameOf u .level ≡ frameOf t .level
+    → EdgesReversed (edgesOf (frameOf t .points) (frameOf t .counts)) (edgesOf (frameOf u .points) (frameOf u .counts)) → Yes (question4 (frameOf u .counts))
+    → frameRefusal u ≡ 0
+drawn-either-way t u done is side level back four =
+    let f = frameOf t in
+    let g = frameOf u in
+    let yes = frame-refusals t .accepted .0 done in
+    let enough = long t (is-frame t done) in
+    let few = ap (λ n. leb n mostEdges) (either-way-count (f .points) (f .counts) (g .points) (g .counts) enough (long u is) back) in
+    let inside = either-way-every (f .points) (f .counts) (g .points) (g .counts) enough (long u is) back (between (pos 0) (pos (stepsPerPixel * f .side))) in
+    frame-refusals u .accepted .1 (
+      is,
+      (
+        ap (λ s. question1 s .answer) side ∙ yes .1 .0,
+        (
+          four,
+          (
+            few ∙ yes .1 .1 .1 .0,
+            (
+              ap (λ s. question6 s (g .points) .answer) side ∙ inside ∙ yes .1 .1 .1 .1 .0,
+              (ap₂ (λ s l. question7 s l .answer) side level ∙ yes .1 .1 .1 .1 .1 .0, tt),
+            ),
+          ),
+        ),
+      ),
+    )
 
 pub printed-either-way : (t u : List ℕ) → frameRefusal t ≡ 0 → frameRefusal u ≡ 0 → frameOf u .side ≡ frameOf t .side → frameOf u .level ≡ frameOf t .level
     → EdgesReversed (edgesOf (frameOf t .points) (frameOf t .counts)) (edgesOf (frameOf u .points) (frameOf u .counts))

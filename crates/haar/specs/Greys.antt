@@ -37,7 +37,8 @@ grey side num den = inkGrey side (abs num) den
 abbrev pub greyOf : ℕ → ℤ → ℕ
 greyOf side f = grey side f 1
 
--- Checks, on a tile of one pixel. Half of it is 127 1/2 greys: were the quotient rounded, and then its magnitude taken, it would be 127 below zero.
+-- Checks, on a tile of one pixel. Half of it is 127 1/2 greys: were the quotient rounded, and then its magnitude taken, then below zero it would be 127, and
+-- not 128.
 half-pixel : greyOf 1 (pos 65536) ≡ 128
 unfolding min max abs floor roundHalfUp clamp inkGrey grey
 half-pixel = refl

@@ -6,7 +6,7 @@
 -- which it is measured. It is said of what the calls leave (`Outcomes`), whatever the tables held before.
 --
 -- The points of each contour in the reverse order are such an outline (`ReversedOutline`). A contour may also be walked back from its first point, and begin
--- at any other of them: that its edges are then so walked are laws there (`contourEdges-back`, `contourEdges-rotate`).
+-- at any other of them: its edges are then so walked too, by `contourEdges-back` and `contourEdges-rotate` of the same file of `accuracy`.
 --
 -- Definitions
 --   opposite l                   a table or a picture of figures, with every sign turned
@@ -20,13 +20,13 @@
 --   reversed-edges-exact-grey    and in every cell the same exact grey
 -- Main results, of two outlines, the edges of one those of the other, so walked
 --   either-way-count,
---   either-way-every             they have as many edges, and a test of every coordinate has the same answer
+--   either-way-every             where both have as many points as their counts say: as many edges, and the same answer to a test of every coordinate
 --   either-way-accepted          where building accepts the one, it accepts the other, over a table as long
 --   either-way-table             where it accepts both, it leaves opposite tables
 --   either-way-greys             so every grey is the same, at every level
 --   either-way-placed-accepted,
 --   either-way-placed-table,
---   either-way-placed-greys      the same with placements
+--   either-way-placed-greys      the same with placements; to be accepted, the other must pass question 12 too
 --   either-way-held-edges,
 --   either-way-held-table,
 --   either-way-held-greys        and of tiles that hold such contours (`Holding`), as series of corrections leave them: the records are the same too
