@@ -40,7 +40,7 @@ use Rattle.edge.specs.Laws.WalkInside.{unit-x-steady, unit-y-steady}
 use Rattle.edge.specs.Lemmas.Records.{samples-eq, details-eq}
 
 -- ---- samples of the definitions
-abbrev samplesOf : (ℤ → ℤ) → Samples → Samples
+abbrev pub samplesOf : (ℤ → ℤ) → Samples → Samples
 samplesOf f k = record { first = f (k .first); second = f (k .second); third = f (k .third); fourth = f (k .fourth) }
 
 near-samples : {a : Axis} {side w : ℤ} {k : Samples} → SamplesClosed a side w k → nearAt (a .scale *ℤ w) (beyondAt a side k) ≡ samplesOf (near a side w) k
@@ -49,7 +49,7 @@ near-samples {a} {side} {w} s = samples-eq (at (s .first)) (at (s .second)) (at 
     at : {t : ℤ} → Closed a side w t → min (beyond a side t) (a .scale *ℤ w -ℤ beyond a side t) ≡ near a side w t
     at c = sym (tent-inside (c .low) (c .high))
 
-past-samples : {a : Axis} {side w : ℤ} {k : Samples} → SamplesClosed a side w k → beyondAt a side k ≡ samplesOf (past a side w) k
+pub past-samples : {a : Axis} {side w : ℤ} {k : Samples} → SamplesClosed a side w k → beyondAt a side k ≡ samplesOf (past a side w) k
 past-samples {a} {side} {w} s = samples-eq (at (s .first)) (at (s .second)) (at (s .third)) (at (s .fourth))
   where
     at : {t : ℤ} → Closed a side w t → beyond a side t ≡ past a side w t
@@ -105,7 +105,7 @@ Answers e c half z =
     → roundedBy (z .divisor) (numeratorsAt (z .x) (z .y) c (cuts (z .x) (z .y) c half (z .steps))) ≡ details e c
 
 -- over 1 a number is itself
-whole : (q : ℤ) → roundHalfAway q 1 ≡ q
+pub whole : (q : ℤ) → roundHalfAway q 1 ≡ q
 whole q = ap (λ z. roundHalfAway z 1) {y = q *ℤ pos 1} (ring (q ∷ []) (search read depth 40) tt) ∙ roundHalfAway-mul q {d = 1} (omega arith)
 
 module _ (e : Edge) (c : Cell) (half : ℤ) (even : c .width ≡ half +ℤ half) (hh : pos 0 ≤ℤ half) where

@@ -10,3 +10,4 @@ pub mod PieceBounds
 -- an edge in one quarter; the closed form at the four cuts
 pub mod InQuarter
 pub mod CutForm
+pub mod AreaForm

@@ -5,6 +5,7 @@
 --   Closed, SamplesClosed                                a direction is between its sides, or on them
 --   beyondAt, nearAt, pieceSum,
 --   numeratorsOf, numeratorsAt                           the closed form at the four cuts
+--   heldAt, areaAt                                       and of the area
 --   roundedBy                                            three numerators, rounded
 --   AxisRoom, SamplesWithin                              the ranges that they ask for
 use lib.IntN.{ℤ, pos, natAbs, _+ℤ_, _-ℤ_, _*ℤ_}
@@ -12,6 +13,7 @@ use lib.Signed.{_≤ℤ_}
 use Rattle.integers.specs.Units.{widthTimesExtentLimit}
 use Rattle.integers.specs.Within.{Within}
 use Rattle.integers.specs.MinMax.{min}
+use Rattle.integers.specs.Clamp.{clamp}
 use Rattle.integers.specs.Rounding.{roundHalfAway}
 use Rattle.edge.specs.declared.Edge.{Edge}
 use Rattle.edge.specs.declared.Axis.{Axis}
@@ -62,6 +64,13 @@ numeratorsOf m n x y = record { h = pieceSum (nearAt m x) y; v = pos 0 -ℤ piec
 
 abbrev pub numeratorsAt : Axis → Axis → Cell → Samples → Details
 numeratorsAt a b c k = numeratorsOf (a .scale *ℤ c .width) (b .scale *ℤ c .width) (beyondAt a (c .left) k) (beyondAt b (c .top) k)
+
+-- held between 0 and m
+abbrev pub heldAt : ℤ → Samples → Samples
+heldAt m u = record { first = clamp (u .first) (pos 0) m; second = clamp (u .second) (pos 0) m; third = clamp (u .third) (pos 0) m; fourth = clamp (u .fourth) (pos 0) m }
+
+abbrev pub areaAt : Axis → Axis → Cell → Samples → ℤ
+areaAt a b c k = pieceSum (heldAt (a .scale *ℤ c .width) (beyondAt a (c .left) k)) (beyondAt b (c .top) k)
 
 abbrev pub roundedBy : ℤ → Details → Details
 roundedBy n m = record { h = roundHalfAway (m .h) (natAbs n); v = roundHalfAway (m .v) (natAbs n); d = roundHalfAway (m .d) (natAbs n) }

@@ -7,6 +7,7 @@
 --   meet, span          the steps of both directions at once, and so inside a cell
 --   toMiddle            the step at which a direction crosses the middle between its sides
 --   cutsAt, cuts        the first step, both middles in their order, the last step
+--   rows, sideCuts      the steps in a cell's rows, and where the cell's left and right side cut them
 use mathlib.Core.Bool.{cond}
 use Prim.Native.Nat.{zero, suc}
 use lib.IntN.{ℤ, pos, negsuc, negℤ, _+ℤ_, _-ℤ_, _*ℤ_}
@@ -56,3 +57,11 @@ cutsAt p q x y = record { first = p; second = min (clamp x p q) (clamp y p q); t
 
 abbrev pub cuts : Axis → Axis → Cell → ℤ → ℤ → Samples
 cuts a b c half n = cutsAt (span a b c n .first) (span a b c n .last) (toMiddle a (c .left) half) (toMiddle b (c .top) half)
+
+-- ---- for the area: an edge beyond a cell may be in its rows
+abbrev pub rows : Axis → Cell → ℤ → Span
+rows b c n = meet (stripOf b (c .top) (c .width) n) (stripOf b (c .top) (c .width) n) n
+
+-- the left side is the middle for a half width of 0, the right one for the width
+abbrev pub sideCuts : Axis → Axis → Cell → ℤ → Samples
+sideCuts a b c n = cutsAt (rows b c n .first) (rows b c n .last) (toMiddle a (c .left) (pos 0)) (toMiddle a (c .left) (c .width))

@@ -28,3 +28,8 @@ pub mod WalkInside
 pub mod Cells
 -- the slanted edges of 01's letters F and G
 pub mod Letters
+-- an edge and a cell moved together; a square cut into tiles
+pub mod Translation
+pub mod Tiling
+-- the sum over at most three pieces of the area in a cell
+pub mod ClosedArea

@@ -1,12 +1,13 @@
--- A cell's quarters, cells in cells, and edges in cells, as the quadtree has them.
+-- A cell's quarters, cells in cells, and edges in cells, as the quadtree has them; and both as seen from elsewhere.
 --
 -- Definitions
 --   quarter                 quarter (i, j) of a cell
 --   Contains                the second cell lies in the first
 --   OnRange, OnCell         a coordinate between two sides; both end points of an edge in the closed cell
 --   Sheet                   a square that edges lie on
+--   seenFrom, moved         an edge as seen from (a, b), its coordinates less these; a cell moved by (a, b)
 use Prim.Native.Nat.{ℕ}
-use lib.IntN.{ℤ, pos, _+ℤ_, _*ℤ_}
+use lib.IntN.{ℤ, pos, _+ℤ_, _-ℤ_, _*ℤ_}
 use lib.Signed.{_≤ℤ_}
 use Rattle.integers.specs.Within.{Within}
 use Rattle.edge.specs.declared.Edge.{Edge}
@@ -41,3 +42,10 @@ pub record Sheet (s : Cell) : Type 0 where
   pub right : (s .left +ℤ s .width) ≤ℤ pos coordinateLimit
   pub top : Within (pos coordinateLimit) (s .top)
   pub bottom : (s .top +ℤ s .width) ≤ℤ pos coordinateLimit
+
+-- ---- from elsewhere: what (x, y) is from the origin is (x − a, y − b) from (a, b)
+abbrev pub seenFrom : ℤ → ℤ → Edge → Edge
+seenFrom a b e = record { x0 = e .x0 -ℤ a; y0 = e .y0 -ℤ b; x1 = e .x1 -ℤ a; y1 = e .y1 -ℤ b }
+
+abbrev pub moved : ℤ → ℤ → Cell → Cell
+moved a b c = record { left = a +ℤ c .left; top = b +ℤ c .top; width = c .width }

@@ -3,6 +3,7 @@
 -- Definitions
 --   details             h, v and d, each rounded on its own
 --   rootTerm            the edge's term of the signed area
+--   roundedArea         the edge's part of a cell's area, rounded on its own
 --   Exact               rounding keeps the three details
 --   DetailsWithin       a bound of all three
 use mathlib.Core.Path.{_≡_}
@@ -13,7 +14,7 @@ use Rattle.edge.specs.declared.Edge.{Edge}
 use Rattle.edge.specs.declared.Cell.{Cell}
 use Rattle.edge.specs.declared.Details.{Details}
 use Rattle.edge.specs.Walk.{steps}
-use Rattle.edge.specs.Integrals.{hNum, vNum, dNum}
+use Rattle.edge.specs.Integrals.{areaNum, hNum, vNum, dNum}
 
 -- "Each edge's three values are rounded on their own, to the nearest whole unit, halves away from zero."
 unfoldable pub details : Edge → Cell → Details
@@ -22,6 +23,10 @@ details e c = record { h = roundHalfAway (hNum e c) (steps e); v = roundHalfAway
 -- "Signed area in units is the sum over edges of x0 × y1 − x1 × y0"
 unfoldable pub rootTerm : Edge → ℤ
 rootTerm e = e .x0 *ℤ e .y1 -ℤ e .x1 *ℤ e .y0
+
+-- "The root is now rounded for each edge too" (02, P5): of the tile's square, to the nearest whole unit, halves away from zero
+unfoldable pub roundedArea : Edge → Cell → ℤ
+roundedArea e c = roundHalfAway (areaNum e c) (steps e)
 
 -- rounding leaves the edge's three details in the cell as they are: they are whole
 pub record Exact (e : Edge) (c : Cell) : Type 0 where

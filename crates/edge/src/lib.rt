@@ -22,7 +22,8 @@
 
 ghost use mathlib.Core.Path.{_≡_};
 ghost use mathlib.Core.Logic.{_⊎_};
-ghost use lib.IntN.{pos, _+ℤ_, _-ℤ_, _*ℤ_};
+ghost use lib.IntN.{pos, natAbs, _+ℤ_, _-ℤ_, _*ℤ_};
+ghost use Rattle.integers.specs.Rounding.{roundHalfAway};
 ghost use lib.Signed.{_≤ℤ_, _<ℤ_};
 ghost use Rattle.integers.specs.Units.{widthTimesExtentLimit};
 ghost use Rattle.integers.specs.Within.{Within};
@@ -30,10 +31,10 @@ ghost use Rattle.integers.specs.MinMax.{min, max};
 ghost use Rattle.integers.specs.Clamp.{clamp};
 ghost use Rattle.edge.specs.Walk.{extent as extentOf, sign as signOf, dx, dy, ax as axOf, ay as ayOf};
 ghost use Rattle.edge.specs.Inside.{Inside};
-ghost use Rattle.edge.specs.Rounded.{details as detailsOf};
-ghost use Rattle.edge.specs.Cuts.{strip as stripSteps, stripOf, meet as meetOf, span as spanOf, toMiddle, cutsAt};
+ghost use Rattle.edge.specs.Rounded.{details as detailsOf, roundedArea};
+ghost use Rattle.edge.specs.Cuts.{strip as stripSteps, stripOf, meet as meetOf, span as spanOf, toMiddle, cutsAt, rows, sideCuts};
 ghost use Rattle.edge.specs.Room.{coordinateLimit, extentLimit, crossingLimit, Measured, Even, Room};
-ghost use Rattle.edge.specs.Code.{AxisRoom, SamplesWithin, SameHalf, SameQuarter, SamplesClosed, beyondAt, nearAt, pieceSum, numeratorsAt, roundedBy};
+ghost use Rattle.edge.specs.Code.{AxisRoom, SamplesWithin, SameHalf, SameQuarter, SamplesClosed, beyondAt, nearAt, pieceSum, numeratorsAt, roundedBy, heldAt, areaAt};
 ghost use Rattle.edge.specs.WalkOf.{IsWalk, Decides};
 use integers::div_round_half_away;
 
@@ -469,4 +470,72 @@ pub fn details_in(w: Walk, c: Cell) -> Details
     ensures { λ r. ⌜ r ≡ detailsOf (w .edge) c ⌝ }
 {
     details_over(w, c, span_in(w, c))
+}
+
+// ---- the rounded area
+
+// From 0 to m at each cut.
+fn hold_at(m: i64, u: Samples) -> Samples
+    ensures { λ r. ⌜ r ≡ heldAt m u ⌝ }
+{
+    Samples {
+        first: hold(u.first, 0, m),
+        second: hold(u.second, 0, m),
+        third: hold(u.third, 0, m),
+        fourth: hold(u.fourth, 0, m),
+    }
+}
+
+// The steps of the walk in the cell's rows.
+fn rows_of(w: Walk, c: Cell) -> Span
+    requires { ⌜ IsWalk w × Room (w .edge) c ⌝ }
+    ensures { λ s. ⌜ s ≡ rows (w .y) c (w .steps) ⌝ }
+{
+    let n = w.steps;
+    let r = strip_of(w.y, c.top, c.width, n);
+    meet(r, r, n)
+}
+
+// The area, `divisor` times over, at cuts in the rows: x is held to the cell's width.
+fn area_numerator(a: Axis, b: Axis, c: Cell, k: Samples) -> i64
+    requires { ⌜ AxisRoom a (c .left) (c .width) × AxisRoom b (c .top) (c .width) × SamplesWithin (pos crossingLimit) k × SamplesClosed b (c .top) (c .width) k ⌝ }
+    ensures { λ r. ⌜ r ≡ areaAt a b c k ⌝ }
+{
+    let x = hold_at(a.scale * c.width, beyond_at(a, c.left, c.width, k));
+    let y = beyond_at(b, c.top, c.width, k);
+    pieces(x, y)
+}
+
+// Rounded on its own; a whole number as it is.
+fn round_one(m: i64, n: i64) -> i64
+    requires { ⌜ pos 0 <ℤ n ⌝ }
+    ensures { λ r. ⌜ r ≡ roundHalfAway m (natAbs n) ⌝ }
+{
+    if n == 1 { m } else { div_round_half_away(m, n) }
+}
+
+// Where some step is in the rows: the sum over the pieces, rounded.
+fn cut_area(w: Walk, c: Cell, s: Span) -> i64
+    requires { ⌜ IsWalk w × Room (w .edge) c × (s ≡ rows (w .y) c (w .steps)) × (s .first <ℤ s .last) ⌝ }
+    ensures { λ r. ⌜ r ≡ roundedArea (w .edge) c ⌝ }
+{
+    let k = cuts_of(
+        s,
+        middle_of(w.x, c.left, 0),
+        middle_of(w.x, c.left, c.width),
+    );
+    round_one(area_numerator(w.x, w.y, c, k), w.divisor)
+}
+
+// The edge's part of the cell's area, rounded. An edge beyond the cell has one too: to the right of it, in its rows.
+pub fn area_in(w: Walk, c: Cell) -> i64
+    requires { ⌜ IsWalk w × Room (w .edge) c ⌝ }
+    ensures { λ r. ⌜ r ≡ roundedArea (w .edge) c ⌝ }
+{
+    let s = rows_of(w, c);
+    if s.first < s.last {
+        cut_area(w, c, s)
+    } else {
+        0
+    }
 }

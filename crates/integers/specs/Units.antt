@@ -4,6 +4,8 @@
 -- Definitions
 --   stepsPerPixel; unitsPerHalfSquareStep, unitsPerPixel            length and area
 --   greatestDepth, greatestSide, greatestCoordinate                 the tile
+--   greatestSheetSide, greatestSheetCoordinate,
+--   greatestTileDepth, greatestTileSide                             the sheet, and a tile of it
 --   fewestPoints, mostPoints, mostEdges                             the outline
 --   widthTimesExtentLimit, detailLimit, numeratorLimit              an edge's arithmetic
 --   entryLimit, builtEntryLimit, figureLimit, fullGrey, textLimit   the table, what is drawn of it, the program
@@ -63,6 +65,27 @@ widthTimesExtentLimit = greatestCoordinate * greatestCoordinate
 width-times-extent-is : widthTimesExtentLimit ≡ 2 ^ 28
 width-times-extent-is = refl
 
+-- ---- the sheet (02, P5): "a sheet of side up to 128 pixels, a power of two", and on it "one tile of side up to 32"
+abbrev pub greatestSheetSide : ℕ
+greatestSheetSide = 128
+
+abbrev pub greatestSheetCoordinate : ℕ
+greatestSheetCoordinate = stepsPerPixel * greatestSheetSide
+
+abbrev pub greatestTileDepth : ℕ
+greatestTileDepth = 5
+
+abbrev pub greatestTileSide : ℕ
+greatestTileSide = 2 ^ greatestTileDepth
+
+tile-side-is : greatestTileSide ≡ 32
+tile-side-is = refl
+
+-- The sheet is twice as wide as 01's greatest tile, and its tiles half as wide: so an edge's extent times a cell's width is no larger there.
+sheet-times-tile-is : greatestSheetCoordinate * (stepsPerPixel * greatestTileSide) ≡ widthTimesExtentLimit
+sheet-times-tile-is = refl
+
+-- ---- what comes of it
 -- what an edge adds to an entry at most, in units: its extent times a cell's width
 abbrev pub detailLimit : ℕ
 detailLimit = unitsPerHalfSquareStep * widthTimesExtentLimit

@@ -5,17 +5,18 @@
 --   ClosedRun                     the walk is between the sides, or on them, from step u to step v
 --   past-linear                   there the held coordinate is linear
 --   OneHalf, near-linear          and where it does not cross the middle either, so is the distance to the nearer side
+--   past-thrice                   at cuts p ≤ u ≤ v ≤ q with the crossings of both sides at u and at v, `past` is linear on all three runs
 --   BothLinear, both-linear       at cuts p ≤ u ≤ v ≤ q with the crossing of the middle at u or at v, `past` and `near` are linear on all three runs
 use mathlib.Core.Path.{_≡_, _∙_, ap, subst}
 use mathlib.Core.List.{[], _∷_}
 use mathlib.Core.Logic.{_⊎_, inl, inr}
 use lib.IntN.{ℤ, pos, negℤ, _+ℤ_, _-ℤ_, _*ℤ_}
-use lib.Signed.{_≤ℤ_, _<ℤ_}
+use lib.Signed.{_≤ℤ_, _<ℤ_, ≤ℤ-refl}
 use Rattle.integers.specs.Ring.{read, ring}
 use Rattle.integers.specs.Order.{≤ℤ-or-<ℤ, ≤ℤ-trans, ≤ℤ-of-<ℤ}
 use Rattle.integers.specs.Linear.{le, lt, eq, _&_, none!, linear, lin≤, lin≡}
-use Rattle.integers.specs.MinMax.{min-eqˡ, min-eqʳ}
-use Rattle.integers.specs.Clamp.{clamp, clamp-below, clamp-inside, clamp-above}
+use Rattle.integers.specs.MinMax.{min, max, min-eqˡ, min-eqʳ, min-≤ˡ, min-≤ʳ, min-greatest, max-≥ˡ, max-≥ʳ, max-least}
+use Rattle.integers.specs.Clamp.{clamp, clamp-low, clamp-high, clamp-below, clamp-inside, clamp-above}
 use Rattle.integers.specs.Tent.{tent-inside}
 use Rattle.edge.specs.declared.Axis.{Axis}
 use Rattle.edge.specs.Walk.{beyond, past, near}
@@ -103,6 +104,83 @@ near-linear-beside : (a : Axis) → Steady a → (side half : ℤ) {w u v : ℤ}
 near-linear-beside a s side half {w} e r (short h) = near-linear a side half e r (one-half (a .scale) (a .start) side half (s .signed) (inl h))
 near-linear-beside a s side half {w} e r (beyond-it h) = near-linear a side half e r (one-half (a .scale) (a .start) side half (s .signed) (inr h))
 near-linear-beside a s side half {w} e r (single h) = linear-point (near a side w) h
+
+past-one-side : (a : Axis) (side : ℤ) {w u v : ℤ} → pos 0 ≤ℤ (a .scale *ℤ w)
+    → OneHalf a side (pos 0) u v → OneHalf a side w u v ⊎ (v ≤ℤ u) → LinearOn (past a side w) u v
+past-one-side a side {w} h x (inr y) = linear-point (past a side w) y
+past-one-side a side {w} h (before f) (inl y) = record {
+  offset = pos 0;
+  slope = pos 0;
+  line = λ t i j.
+      clamp-below (a .scale *ℤ w) (lin≤ (a .scale ∷ a .start ∷ a .sign ∷ side ∷ t ∷ []) (le (f t i j)) (search linear depth 40) tt)
+      ∙ ring (t ∷ []) (search read depth 40) tt;
+}
+past-one-side a side {w} h (behind f) (inl (before g)) = record {
+  offset = a .scale *ℤ (a .start -ℤ side);
+  slope = a .sign;
+  line = λ t i j. clamp-inside (lin≤ (a .scale ∷ a .start ∷ a .sign ∷ side ∷ t ∷ []) (le (f t i j)) (search linear depth 40) tt) (g t i j);
+}
+past-one-side a side {w} h (behind f) (inl (behind g)) = record {
+  offset = a .scale *ℤ w;
+  slope = pos 0;
+  line = λ t i j. clamp-above h (g t i j) ∙ ring (a .scale ∷ w ∷ t ∷ []) (search read depth 40) tt;
+}
+
+-- ---- anywhere, cut where the walk crosses the two sides, which are the middles of half widths 0 and w
+-- a run beside a crossing is on one side of it, or a single step
+side-of : (a : Axis) → Steady a → (side half : ℤ) {u v : ℤ} → Beside (toMiddle a side half) u v → OneHalf a side half u v ⊎ (v ≤ℤ u)
+side-of a s side half (short z) = inl (one-half (a .scale) (a .start) side half (s .signed) (inl z))
+side-of a s side half (beyond-it z) = inl (one-half (a .scale) (a .start) side half (s .signed) (inr z))
+side-of a s side half (single z) = inr z
+
+past-linear-beside : (a : Axis) → Steady a → (side w : ℤ) {u v : ℤ} → pos 0 ≤ℤ (a .scale *ℤ w)
+    → Beside (toMiddle a side (pos 0)) u v → Beside (toMiddle a side w) u v → LinearOn (past a side w) u v
+past-linear-beside a s side w {u} {v} h x y = go (side-of a s side (pos 0) x)
+  where
+    go : OneHalf a side (pos 0) u v ⊎ (v ≤ℤ u) → LinearOn (past a side w) u v
+    go (inl z) = past-one-side a side h z (side-of a s side w y)
+    go (inr z) = linear-point (past a side w) z
+
+pub past-thrice : (a : Axis) → Steady a → (side w : ℤ) {p q : ℤ} → pos 0 ≤ℤ (a .scale *ℤ w) → p ≤ℤ q
+    → LinearThrice (past a side w) p (min (clamp (toMiddle a side (pos 0)) p q) (clamp (toMiddle a side w) p q))
+    (max (clamp (toMiddle a side (pos 0)) p q) (clamp (toMiddle a side w) p q)) q
+past-thrice a s side w {p} {q} h pq = record {
+  first = past-linear-beside a s side w h (beside L p q pq (≤ℤ-refl p) u≤q (inl (min-≤ˡ l r))) (beside R p q pq (≤ℤ-refl p) u≤q (inl (min-≤ʳ l r)));
+  second = past-linear-beside a s side w h (beside L p q pq p≤u v≤q (middle (≤ℤ-or-<ℤ l r))) (beside R p q pq p≤u v≤q (other (≤ℤ-or-<ℤ l r)));
+  third = past-linear-beside a s side w h (beside L p q pq p≤v (≤ℤ-refl q) (inr (max-≥ˡ l r))) (beside R p q pq p≤v (≤ℤ-refl q) (inr (max-≥ʳ l r)));
+}
+  where
+    L : ℤ
+    L = toMiddle a side (pos 0)
+
+    R : ℤ
+    R = toMiddle a side w
+
+    l : ℤ
+    l = clamp L p q
+
+    r : ℤ
+    r = clamp R p q
+
+    p≤u : p ≤ℤ min l r
+    p≤u = min-greatest (clamp-low L p q) (clamp-low R p q)
+
+    v≤q : max l r ≤ℤ q
+    v≤q = max-least (clamp-high pq L) (clamp-high pq R)
+
+    u≤q : min l r ≤ℤ q
+    u≤q = ≤ℤ-trans (min-≤ˡ l r) (clamp-high pq L)
+
+    p≤v : p ≤ℤ max l r
+    p≤v = ≤ℤ-trans (clamp-low L p q) (max-≥ˡ l r)
+
+    middle : (l ≤ℤ r) ⊎ (r <ℤ l) → (max l r ≤ℤ l) ⊎ (l ≤ℤ min l r)
+    middle (inl i) = inr (min-greatest (≤ℤ-refl l) i)
+    middle (inr i) = inl (max-least (≤ℤ-refl l) (≤ℤ-of-<ℤ i))
+
+    other : (l ≤ℤ r) ⊎ (r <ℤ l) → (max l r ≤ℤ r) ⊎ (r ≤ℤ min l r)
+    other (inl i) = inl (max-least i (≤ℤ-refl r))
+    other (inr i) = inr (min-greatest (≤ℤ-of-<ℤ i) (≤ℤ-refl r))
 
 -- ---- one direction, at four cuts of which the middle two are m and another in their order
 pub record BothLinear (a : Axis) (side w p u v q : ℤ) : Type 0 where
