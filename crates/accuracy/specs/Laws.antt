@@ -17,8 +17,9 @@ pub mod ExactFigures
 pub mod Numbered
 -- what rounding does to each edge's details
 pub mod RoundingErrors
--- so how far a figure misses: a sum over the cells in which its cell lies, of the edges that come inside
+-- so how far a figure misses: a sum over the cells in which its cell lies, of the edges that come inside, beside what the root misses by
 pub mod Closeness
+pub mod Roots
 -- and how far two greys are apart
 pub mod CloseGreys
 -- the table: how large its entries are, that the order of edges does not matter, and that an outline walked the other way has the opposite one
@@ -29,3 +30,5 @@ pub mod Reversal
 pub mod EdgeEnds
 -- and the table by the closed form of the edges' details, which computes
 pub mod ClosedTable
+-- ---- the tiles of a sheet: what each sees of the edges, and that their roots add up
+pub mod SheetTiles

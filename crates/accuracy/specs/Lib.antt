@@ -12,6 +12,8 @@ pub mod ExactArea
 pub mod ExactDetails
 -- the table: sums over the edges of rounded details
 pub mod OutlineTable
+-- the tiles of a sheet: the outline as it is seen from a tile's corner
+pub mod Sheet
 -- ---- the claim
 pub mod Accurate
 -- ---- and that it holds

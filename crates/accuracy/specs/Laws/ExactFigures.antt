@@ -15,15 +15,13 @@ use Rattle.haar.specs.Figures.{signedDetails, figure}
 use Rattle.haar.specs.Plane.{dimensions, at}
 use Rattle.haar.specs.Laws.Areas.{figure-area}
 use Rattle.haar.specs.Laws.Quarters.{parent-at, signedDetails-quarter}
-use Rattle.accuracy.specs.Outline.{signedArea, ClosedEdges}
-use Rattle.accuracy.specs.Tile.{ClosedOnTile}
-use Rattle.accuracy.specs.ExactArea.{denominator, exactAreaNum}
+use Rattle.accuracy.specs.Outline.{ClosedEdges}
+use Rattle.accuracy.specs.ExactArea.{exactAreaNum}
 use Rattle.accuracy.specs.ExactDetails.{exactDetailNum}
 use Rattle.accuracy.specs.Laws.OutlineQuarter.{outline-quarter}
-use Rattle.accuracy.specs.Laws.OutlineWhole.{outline-whole}
 
 abbrev pub exactTable : ℕ → List Edge → Coefficients dimensions
-exactTable depth es = record { root = signedArea es *ℤ pos (denominator es); detail = exactDetailNum depth es }
+exactTable depth es = record { root = exactAreaNum depth es 0 (at 0 0); detail = exactDetailNum depth es }
 
 -- level 0 has one cell
 only-cell : (cell : Cell dimensions) → Below dimensions 1 cell → cell ≡ at 0 0
@@ -44,10 +42,10 @@ quarter-by-signs {es} closed depth j h (cx, (cy, rest)) =
     ∙ ap (λ (q : Cell dimensions). exactAreaNum depth es j q +ℤ signedDetails dimensions (exactDetailNum depth es j q) (childNumber dimensions (at cx cy)))
     (sym (parent-at cx cy))
 
-pub exact-figure : {depth : ℕ} {es : List Edge} → ClosedOnTile depth es → (level : ℕ) → level ≤ depth → (cell : Cell dimensions) → Below dimensions (2 ^ level) cell
+pub exact-figure : {depth : ℕ} {es : List Edge} → ClosedEdges es → (level : ℕ) → level ≤ depth → (cell : Cell dimensions) → Below dimensions (2 ^ level) cell
     → figure dimensions (exactTable depth es) level cell ≡ pos (4 ^ level) *ℤ exactAreaNum depth es level cell
-exact-figure {depth} {es} o =
+exact-figure {depth} {es} closed =
     figure-area {n = dimensions} {t = exactTable depth es} {a = exactAreaNum depth es} (record {
-      whole = λ cell b. ap (exactAreaNum depth es 0) (only-cell cell b) ∙ outline-whole o;
-      part = λ j h cell b. quarter-by-signs (o .closed) depth j h cell;
+      whole = λ cell b. ap (exactAreaNum depth es 0) (only-cell cell b);
+      part = λ j h cell b. quarter-by-signs closed depth j h cell;
     })

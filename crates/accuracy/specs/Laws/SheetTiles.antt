@@ -1,0 +1,140 @@
+-- The tiles of a sheet.
+--
+-- Main results
+--   from-tile-closed             closed edges are closed as seen from any tile
+--   from-tile-area               the exact area of a tile's cell is 01's, of the edges as they are and of the cell at its place on the sheet
+--   tiles-add-up                 "For outlines of level, upright and 45 degree edges the tiles' roots add up to the outline's area."
+use mathlib.Core.Path.{_≡_, refl, sym, _∙_, ap, ap₂, subst⁻¹}
+use mathlib.Core.List.{List, [], _∷_, map}
+use Prim.Native.Nat.{ℕ, zero, suc, _+_, _*_, _-_, _^_, _≤_}
+use native.Mathlib.Omega.{arith}
+use lib.ListN.{length}
+use lib.IntN.{ℤ, pos, _+ℤ_, _-ℤ_, _*ℤ_}
+use lib.Signed.{_≤ℤ_}
+use Rattle.integers.specs.Ring.{read, ring, comb, _⊗_, _⊕_}
+use Rattle.integers.specs.Order.{nonneg}
+use Rattle.integers.specs.RangeSum.{Σ<, Σ-cong, Σ-scale}
+use Rattle.integers.specs.ListSum.{All, all-of, all-map, total, total-cong, total-add, total-const, total-map}
+use Rattle.integers.specs.Fraction.{common, numer}
+use Rattle.integers.specs.Rounding.{roundHalfAway}
+use Rattle.integers.specs.RoundHalfAway.{roundHalfAway-mul}
+use Rattle.edge.specs.declared.Edge.{Edge}
+use Rattle.edge.specs.declared.Cell.{Cell as Square}
+use Rattle.edge.specs.Walk.{steps}
+use Rattle.edge.specs.Integrals.{areaNum}
+use Rattle.edge.specs.Rounded.{rootTerm, roundedArea}
+use Rattle.edge.specs.Octilinear.{Octilinear}
+use Rattle.edge.specs.Nested.{OnCell, seenFrom, moved}
+use Rattle.edge.specs.Laws.StepCount.{steps-pos, rounded-whole, whole-kept}
+use Rattle.edge.specs.Laws.WholeTile.{rootBoundary, whole-tile}
+use Rattle.edge.specs.Laws.OctilinearEdges.{unitArea, area-octilinear}
+use Rattle.edge.specs.Laws.Translation.{steps-seen, area-seen, roundedArea-seen}
+use Rattle.edge.specs.Laws.Tiling.{tileIn, area-tiles}
+use Rattle.haar.specs.Cells.{Cell}
+use Rattle.haar.specs.Plane.{dimensions}
+use Rattle.accuracy.specs.Outline.{signedArea, gain, ClosedEdges}
+use Rattle.accuracy.specs.Tile.{cellWidth, square, tile}
+use Rattle.accuracy.specs.ExactArea.{denominator, exactAreaNum}
+use Rattle.accuracy.specs.OutlineTable.{tileRoot}
+use Rattle.accuracy.specs.Sheet.{corner, fromTile}
+
+-- ---- as seen from a tile
+pub from-tile-closed : (depth tx ty : ℕ) {es : List Edge} → ClosedEdges es → ClosedEdges (fromTile depth tx ty es)
+from-tile-closed depth tx ty {es} closed = record {
+  cancels = λ f.
+      total-map (gain f) (seenFrom (corner depth tx) (corner depth ty)) es
+      ∙ closed .cancels (λ x y. f (x -ℤ corner depth tx) (y -ℤ corner depth ty));
+}
+
+numer-map : (f g : Edge → ℤ) (k : Edge → Edge) → ((e : Edge) → steps (k e) ≡ steps e) → ((e : Edge) → f (k e) ≡ g e) → (es : List Edge)
+    → (common steps (map k es) ≡ common steps es) × (numer steps f (map k es) ≡ numer steps g es)
+unfolding numer common
+numer-map f g k s h [] = (refl, refl)
+numer-map f g k s h (e ∷ es) =
+    let rest = numer-map f g k s h es in (
+      ap₂ _*_ (s e) (rest .0),
+      ap₂ (λ a c. a *ℤ pos c +ℤ pos (steps (k e)) *ℤ numer steps f (map k es)) (h e) (rest .0)
+      ∙ ap₂ (λ n z. g e *ℤ pos (common steps es) +ℤ pos n *ℤ z) (s e) (rest .1),
+    )
+
+module _ (depth tx ty : ℕ) (es : List Edge) where
+  abbrev a : ℤ
+  a = corner depth tx
+
+  abbrev b : ℤ
+  b = corner depth ty
+
+  pub from-tile-area : (level : ℕ) (cell : Cell dimensions)
+      → (denominator (fromTile depth tx ty es) ≡ denominator es)
+      × (exactAreaNum depth (fromTile depth tx ty es) level cell ≡ numer steps (λ e. areaNum e (moved a b (square depth level cell))) es)
+  from-tile-area level cell =
+      numer-map (λ e. areaNum e (square depth level cell)) (λ e. areaNum e (moved a b (square depth level cell))) (seenFrom a b)
+      (steps-seen a b) (λ e. area-seen a b e (square depth level cell)) es
+
+  pub from-tile-root : tileRoot depth (fromTile depth tx ty es) ≡ total (λ e. roundedArea e (tileIn (pos 0) (pos 0) (pos (cellWidth depth 0)) tx ty)) es
+  from-tile-root =
+      total-map (λ e. roundedArea e (tile depth)) (seenFrom a b) es
+      ∙ total-cong _ _ es (all-of (λ e. roundedArea-seen a b e (tile depth) ∙ ap (roundedArea e) place) es)
+    where
+      at-place : (t : ℕ) → corner depth t +ℤ pos 0 ≡ pos 0 +ℤ pos t *ℤ pos (cellWidth depth 0)
+      at-place t = ring (pos t ∷ pos (cellWidth depth 0) ∷ []) (search read depth 40) tt
+
+      place : moved a b (tile depth) ≡ tileIn (pos 0) (pos 0) (pos (cellWidth depth 0)) tx ty
+      place = ap₂ (λ x y. record { left = x; top = y; width = pos (cellWidth depth 0) }) (at-place tx) (at-place ty)
+
+-- ---- sums over tiles and edges
+total-sum : {A : Type 0} (m : ℕ) (f : ℕ → A → ℤ) (es : List A) → Σ< m (λ i. total (f i) es) ≡ total (λ e. Σ< m (λ i. f i e)) es
+unfolding Σ<
+total-sum zero f es = sym (total-const (pos 0) es ∙ ring (pos (length es) ∷ []) (search read depth 40) tt)
+total-sum (suc m) f es = ap (λ z. z +ℤ total (f m) es) (total-sum m f es) ∙ sym (total-add (λ e. Σ< m (λ i. f i e)) (f m) es)
+
+-- ---- one edge on the sheet of m × m tiles, w steps wide each
+module _ (m w : ℕ) {e : Edge} (s : Octilinear e) where
+  abbrev sheet : Square
+  sheet = record { left = pos 0; top = pos 0; width = pos m *ℤ pos w }
+
+  abbrev at-tile : ℕ → ℕ → Square
+  at-tile i j = tileIn (pos 0) (pos 0) (pos w) i j
+
+  abbrev parts : ℤ
+  parts = Σ< m (λ j. Σ< m (λ i. roundedArea e (at-tile i j)))
+
+  whole-part : (c : Square) → c .width ≡ pos w → areaNum e c ≡ pos (steps e) *ℤ roundedArea e c
+  unfolding roundedArea
+  whole-part c h =
+      sym (whole-kept e (unitArea e c) (area-octilinear s c (subst⁻¹ (λ z. pos 0 ≤ℤ z) h (nonneg w))))
+      ∙ ring (roundHalfAway (areaNum e c) (steps e) ∷ pos (steps e) ∷ []) (search read depth 40) tt
+
+  sheet-parts : areaNum e sheet ≡ parts *ℤ pos (steps e)
+  sheet-parts =
+      area-tiles e (pos 0) (pos 0) (nonneg w) m
+      ∙ Σ-cong m _ _ (λ j h. Σ-cong m _ _ (λ i k. whole-part (at-tile i j) refl) ∙ Σ-scale m (pos (steps e)) (λ i. roundedArea e (at-tile i j)))
+      ∙ Σ-scale m (pos (steps e)) (λ j. Σ< m (λ i. roundedArea e (at-tile i j)))
+      ∙ ring (parts ∷ pos (steps e) ∷ []) (search read depth 40) tt
+
+  edge-parts : OnCell sheet e → parts ≡ rootTerm e +ℤ gain (rootBoundary sheet) e
+  edge-parts on =
+      sym (rounded-whole e parts sheet-parts)
+      ∙ rounded-whole e (rootTerm e +ℤ gain (rootBoundary sheet) e)
+      (whole-tile on ∙ ring (pos (steps e) ∷ rootTerm e ∷ gain (rootBoundary sheet) e ∷ []) (search read depth 40) tt)
+
+pub record OctilinearOn (c : Square) (e : Edge) : Type 0 where
+  pub octilinear : Octilinear e
+  pub on : OnCell c e
+
+-- of every tile of a sheet of m × m of them
+pub tiles-add-up : (m depth : ℕ) {es : List Edge} → ClosedEdges es
+    → All (OctilinearOn (record { left = pos 0; top = pos 0; width = pos m *ℤ pos (cellWidth depth 0) })) es
+    → Σ< m (λ ty. Σ< m (λ tx. tileRoot depth (fromTile depth tx ty es))) ≡ signedArea es
+tiles-add-up m depth {es} closed on =
+    Σ-cong m _ _ (λ ty h. Σ-cong m _ _ (λ tx k. from-tile-root depth tx ty es) ∙ total-sum m (λ tx e. roundedArea e (place tx ty)) es)
+    ∙ total-sum m (λ ty e. Σ< m (λ tx. roundedArea e (place tx ty))) es
+    ∙ total-cong _ (λ e. rootTerm e +ℤ gain (rootBoundary sheet) e) es (all-map (λ e o. edge-parts m (cellWidth depth 0) (o .octilinear) (o .on)) es on)
+    ∙ total-add rootTerm (gain (rootBoundary sheet)) es
+    ∙ comb (total rootTerm es ∷ total (gain (rootBoundary sheet)) es ∷ []) (closed .cancels (rootBoundary sheet)) (search read depth 40) tt
+  where
+    sheet : Square
+    sheet = record { left = pos 0; top = pos 0; width = pos m *ℤ pos (cellWidth depth 0) }
+
+    place : ℕ → ℕ → Square
+    place tx ty = tileIn (pos 0) (pos 0) (pos (cellWidth depth 0)) tx ty
