@@ -1,12 +1,14 @@
 -- Sums over a list, and a property of every element.
 --
 -- Main results
---   all-of, all-map, all-append, all-front, all-take, all-drop, all-entry        of `All P l`, that every element of l has the property P
+--   all-of, all-map, all-append, all-front, all-back, all-take, all-drop, all-entry        of `All P l`, that every element of l has the property P
 --   all-getD, getD-all, getD-each     past its end an entry of a list counts as the default: what holds of that too holds of every entry
 --   total-cong, total-add, total-scale, total-neg, total-append, total-const     as of any finite sum
 --   total-within, total-bounded       terms bounded each by its own bound are bounded by the bounds' sum; each by b, by as many times b
 --   total-perm                        the order of the list does not matter
 --   total-map                         the sum over the images of a list's elements
+--   total-entries                     the sum over the numbers of a list's entries
+--   total-range                       sums over a list, added up, are the sum over the list of what is added up
 --   tally, tally-total, tally-const,
 --   tally-perm                        a count over a list: a sum of natural numbers
 --   length-perm                       in another order a list is as long
@@ -20,6 +22,7 @@ use lib.IntN.{ℤ, pos, natAbs, negℤ, _+ℤ_, _*ℤ_, ℤ-set}
 use lib.Signed.{≤ℤ-refl}
 use Rattle.integers.specs.Ring.{read, ring, comb, _⊕_}
 use Rattle.integers.specs.Within.{Within, within-is, within-add, within-self}
+use Rattle.integers.specs.RangeSum.{Σ<, Σ-first}
 
 -- ---- every element has the property
 abbrev pub All : {A : Type 0} → (A → Type 0) → List A → Type 0
@@ -41,6 +44,10 @@ all-append P (a ∷ k) l p q = (p .0, all-append P k l (p .1) q)
 pub all-front : {A : Type 0} (P : A → Type 0) (k l : List A) → All P (k ++ l) → All P k
 all-front P [] l p = tt
 all-front P (a ∷ k) l p = (p .0, all-front P k l (p .1))
+
+pub all-back : {A : Type 0} (P : A → Type 0) (k l : List A) → All P (k ++ l) → All P l
+all-back P [] l p = p
+all-back P (a ∷ k) l p = all-back P k l (p .1)
 
 pub all-take : {A : Type 0} (P : A → Type 0) (n : ℕ) (l : List A) → All P l → All P (take n l)
 all-take P zero l p = tt
@@ -132,6 +139,17 @@ pub total-map : {A B : Type 0} (f : B → ℤ) (g : A → B) (l : List A) → to
 unfolding total
 total-map f g [] = refl
 total-map f g (a ∷ l) = ap (λ z. f (g a) +ℤ z) (total-map f g l)
+
+-- ---- entries, and ranges
+pub total-entries : {A : Type 0} (f : A → ℤ) (o : A) (l : List A) → total f l ≡ Σ< (length l) (λ i. f (getD l i o))
+unfolding total Σ<
+total-entries f o [] = refl
+total-entries f o (a ∷ l) = ap (λ z. f a +ℤ z) (total-entries f o l) ∙ sym (Σ-first (length l) (λ i. f (getD (a ∷ l) i o)))
+
+pub total-range : {A : Type 0} (m : ℕ) (f : ℕ → A → ℤ) (l : List A) → Σ< m (λ i. total (f i) l) ≡ total (λ a. Σ< m (λ i. f i a)) l
+unfolding Σ<
+total-range zero f l = sym (total-const (pos 0) l ∙ ring (pos (length l) ∷ []) (search read depth 40) tt)
+total-range (suc m) f l = ap (λ z. z +ℤ total (f m) l) (total-range m f l) ∙ sym (total-add (λ a. Σ< m (λ i. f i a)) (f m) l)
 
 -- ---- a count over a list
 unfoldable pub tally : {A : Type 0} → (A → ℕ) → List A → ℕ

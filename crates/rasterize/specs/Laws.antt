@@ -11,8 +11,9 @@ pub mod EdgeEntries
 pub mod OnSheet
 pub mod Contributions
 pub mod ReadyCells
--- an edge on the tile
-pub mod EdgeOnTile
+-- the edges that a tile has in view, alone or on a sheet; and what such an edge adds
+pub mod EdgesInView
+pub mod EdgeAdded
 -- the tables of several edges add up, and so does the room that they need
 pub mod Sums
 pub mod Fitting

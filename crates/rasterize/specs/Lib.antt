@@ -10,5 +10,7 @@ pub mod Contribution
 pub mod Contour
 -- what the functions ask of their callers
 pub mod Ready
+-- a tile alone or on a sheet: how it has the edges, and what an edge adds then
+pub mod Views
 -- laws
 pub mod Laws

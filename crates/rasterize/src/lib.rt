@@ -11,6 +11,9 @@
 //       |      /|       |        are worked out from its cell's. What is added is multiplied by a sign, 1 to add and -1 to take out again.
 //       +-----/-+-------+
 //
+// A tile alone has the edges as they are. A tile of a sheet has them as they are seen from its corner, so that it begins at the origin too; some may lie
+// beyond it, and what an edge adds to the root is then its own part of the tile's area, rounded.
+//
 // A contour is the slice of its own points, and its last point joins its first. An outline is one contour after the other. A placement moves points:
 // each is fetched, placed, when an edge that begins or ends there is made, so that no list of placed points is kept.
 ghost use mathlib.Core.Path.{_≡_};
@@ -21,19 +24,20 @@ ghost use lib.IntN.{pos, _+ℤ_, _*ℤ_};
 ghost use Rattle.integers.specs.Within.{Within};
 ghost use Rattle.edge.specs.Cuts.{span as spanOf};
 ghost use Rattle.edge.specs.WalkOf.{IsWalk};
-ghost use Rattle.edge.specs.Room.{Measured};
+ghost use Rattle.edge.specs.Room.{Measured, Room};
 ghost use Rattle.edge.specs.Rounded.{rootTerm};
+ghost use Rattle.edge.specs.Nested.{seenFrom};
 ghost use Rattle.integers.specs.ListSum.{All};
 ghost use Rattle.integers.specs.Units.{greatestDepth, detailLimit};
 ghost use Rattle.accuracy.specs.Outline.{pointsOf, contoursOf, edgeCount, contourEdges, outlineEdges};
-ghost use Rattle.accuracy.specs.Tile.{OnTile, EdgeOnTile};
-ghost use Rattle.accuracy.specs.OutlineTable.{edgeTable, outlineTable};
+ghost use Rattle.accuracy.specs.Tile.{tile as tileSquare};
 ghost use Rattle.placement.specs.Placed.{placeable, placed};
 ghost use Rattle.rasterize.specs.Added.{added, entryOf};
 ghost use Rattle.rasterize.specs.Nodes.{quarters, quarterNode, nodeAt};
 ghost use Rattle.rasterize.specs.Contribution.{ownPart, contribution};
 ghost use Rattle.rasterize.specs.Contour.{edgeOf};
 ghost use Rattle.rasterize.specs.Ready.{sumLimit, Spare, Ready, Splits, SmallDetails, Fits};
+ghost use Rattle.rasterize.specs.Views.{seenBy, rootPart, partTable, viewTable, InView};
 use edge::Cell;
 use edge::Details;
 use edge::Edge;
@@ -53,6 +57,18 @@ pub struct Node {
     pub x: usize,
     pub y: usize,
     pub square: Cell,
+}
+
+// A tile's upper left corner on its sheet, in steps.
+pub struct Corner {
+    pub x: i64,
+    pub y: i64,
+}
+
+// How a tile has an outline's edges: as they are, or as they are seen from its corner on a sheet.
+pub enum View {
+    Alone,
+    From(Corner),
 }
 
 // Quarter q of a cell: 0 and 1 are the upper two, 0 and 2 those on the left.
@@ -108,12 +124,47 @@ fn tile_of(depth: usize) -> Node
     }
 }
 
+// The edge as it is seen from a tile's corner.
+fn seen_from(e: Edge, corner: Corner) -> Edge
+    requires { ⌜ Measured (seenFrom (corner .x) (corner .y) e) ⌝ }
+    ensures { λ r. ⌜ r ≡ seenFrom (corner .x) (corner .y) e ⌝ }
+{
+    Edge {
+        x0: e.x0 - corner.x,
+        y0: e.y0 - corner.y,
+        x1: e.x1 - corner.x,
+        y1: e.y1 - corner.y,
+    }
+}
+
+// The edge as the tile has it.
+fn seen_by(view: View, e: Edge) -> Edge
+    requires { ⌜ Measured (seenBy view e) ⌝ }
+    ensures { λ r. ⌜ r ≡ seenBy view e ⌝ }
+{
+    match view {
+        View::Alone => e,
+        View::From(corner) => seen_from(e, corner),
+    }
+}
+
 // The edge's term of the signed area.
 fn root_term(e: Edge) -> i64
     requires { ⌜ Measured e ⌝ }
     ensures { λ r. ⌜ r ≡ rootTerm e ⌝ }
 {
     e.x0 * e.y1 - e.x1 * e.y0
+}
+
+// What the walk's edge adds to the root: its term of the signed area, or on a sheet its rounded part of the tile's area. `depth` is for the contract alone.
+fn root_part(view: View, walk: Walk, tile: Cell, depth: usize) -> i64
+    requires { ⌜ IsWalk walk × Room (walk .edge) tile × (tile ≡ tileSquare depth) ⌝ }
+    ensures { λ r. ⌜ r ≡ rootPart view depth (walk .edge) ⌝ }
+{
+    match view {
+        View::Alone => root_term(walk.edge),
+        View::From(_) => edge::area_in(walk, tile),
+    }
 }
 
 // Adds the walk's edge to a cell, and to those of its quarters inside which some part of it lies, `left` levels in all; takes it out where the sign
@@ -135,17 +186,20 @@ fn add_node(table: &mut [i64], walk: Walk, sign: i64, c: Node, span: Span, left:
     }
 }
 
-// Adds an edge to the table of the tile of side 2^depth, or takes it out where the sign is -1.
-pub fn add_edge(table: &mut [i64], e: Edge, sign: i64, depth: usize)
-    requires { ⌜ Fits (now table) depth 1 × EdgeOnTile depth e × Within (pos 1) sign ⌝ }
-    ensures { λ _. ⌜ now (table .exit) ≡ added (now (table .entry)) (λ i. sign *ℤ entryOf depth (edgeTable depth e) i) ⌝ }
+// Adds an edge to the table of the tile of side 2^depth, or takes it out where the sign is -1. An edge no part of which lies inside the tile is not handed
+// down the quadtree.
+pub fn add_edge(table: &mut [i64], e: Edge, view: View, sign: i64, depth: usize)
+    requires { ⌜ Fits (now table) depth 1 × InView view depth e × Within (pos 1) sign ⌝ }
+    ensures { λ _. ⌜ now (table .exit) ≡ added (now (table .entry)) (λ i. sign *ℤ entryOf depth (partTable view depth e) i) ⌝ }
 {
-    add_at(table, 0, sign, root_term(e));
+    let tile = tile_of(depth);
+    let walk = edge::walk_of(seen_by(view, e));
+    add_at(table, 0, sign, root_part(view, walk, tile.square, depth));
     if depth > 0 {
-        let walk = edge::walk_of(e);
-        let tile = tile_of(depth);
         let span = edge::span_in(walk, tile.square);
-        add_node(table, walk, sign, tile, span, depth);
+        if span.first < span.last {
+            add_node(table, walk, sign, tile, span, depth);
+        }
     }
 }
 
@@ -166,13 +220,20 @@ fn edge_from(points: &[i64], placement: Placement, n: usize, k: usize) -> Edge
 }
 
 // Adds the edges of a contour, given by its own points, as placed.
-pub fn add_contour(table: &mut [i64], points: &[i64], placement: Placement, sign: i64, depth: usize)
-    requires { ⌜ Fits (now table) depth (length (now points) / 2) × All (OnTile depth) (pointsOf (placed placement (now points))) × Within (pos 1) sign × (placeable placement (now points) ≡ true) ⌝ }
-    ensures { λ _. ⌜ now (table .exit) ≡ added (now (table .entry)) (λ i. sign *ℤ entryOf depth (outlineTable depth (contourEdges (pointsOf (placed placement (now (points .entry)))))) i) ⌝ }
+pub fn add_contour(
+    table: &mut [i64],
+    points: &[i64],
+    placement: Placement,
+    view: View,
+    sign: i64,
+    depth: usize,
+)
+    requires { ⌜ Fits (now table) depth (length (now points) / 2) × All (InView view depth) (contourEdges (pointsOf (placed placement (now points)))) × Within (pos 1) sign × (placeable placement (now points) ≡ true) ⌝ }
+    ensures { λ _. ⌜ now (table .exit) ≡ added (now (table .entry)) (λ i. sign *ℤ entryOf depth (viewTable view depth (contourEdges (pointsOf (placed placement (now (points .entry)))))) i) ⌝ }
 {
     let n = points.len() / 2;
     for k in 0..n {
-        add_edge(table, edge_from(points, placement, n, k), sign, depth);
+        add_edge(table, edge_from(points, placement, n, k), view, sign, depth);
     }
 }
 
@@ -182,16 +243,17 @@ pub fn add_outline(
     points: &[i64],
     counts: &[u32],
     placement: Placement,
+    view: View,
     sign: i64,
     depth: usize,
 )
-    requires { ⌜ Fits (now table) depth (edgeCount (now counts)) × (2 * edgeCount (now counts) ≤ length (now points)) × All (All (OnTile depth)) (contoursOf (now counts) (placed placement (now points))) × Within (pos 1) sign × (placeable placement (now points) ≡ true) ⌝ }
-    ensures { λ _. ⌜ now (table .exit) ≡ added (now (table .entry)) (λ i. sign *ℤ entryOf depth (outlineTable depth (outlineEdges (contoursOf (now (counts .entry)) (placed placement (now (points .entry)))))) i) ⌝ }
+    requires { ⌜ Fits (now table) depth (edgeCount (now counts)) × (2 * edgeCount (now counts) ≤ length (now points)) × All (InView view depth) (outlineEdges (contoursOf (now counts) (placed placement (now points)))) × Within (pos 1) sign × (placeable placement (now points) ≡ true) ⌝ }
+    ensures { λ _. ⌜ now (table .exit) ≡ added (now (table .entry)) (λ i. sign *ℤ entryOf depth (viewTable view depth (outlineEdges (contoursOf (now (counts .entry)) (placed placement (now (points .entry)))))) i) ⌝ }
 {
     let mut start = 0;
     for k in 0..counts.len() {
         let end = start + 2 * counts[k] as usize;
-        add_contour(table, &points[start..end], placement, sign, depth);
+        add_contour(table, &points[start..end], placement, view, sign, depth);
         start = end;
     }
 }

@@ -5,6 +5,7 @@
 --   Small root depth e           what one edge adds to each entry, with this part of the root, is at most `detailLimit`
 --   edge-small                   so it is of an edge on a square, if the square's width times the tile's is no more, and the root's part neither
 --   edge-on-tile-small           so it is on the tile, the root's part being the edge's root term
+--   sheet-times-tile             a sheet's width times its tile's is within the limit
 --   edge-on-sheet-small          and on a sheet around the tile, the root's part being the edge's rounded area in the tile
 --   built-entries                a table's entries are at most `builtEntryLimit`, for a number of edges that is accepted
 use mathlib.Core.Path.{_≡_, refl}
@@ -15,7 +16,7 @@ use native.Mathlib.Nat.{le-refl, le-trans, sub-le, sub-le-sub-left, mul-le-mul, 
 use lib.ListN.{length}
 use lib.IntN.{ℤ, pos, _*ℤ_}
 use lib.Signed.{_≤ℤ_}
-use Rattle.integers.specs.Units.{stepsPerPixel, greatestDepth, greatestCoordinate, greatestSheetCoordinate, greatestTileDepth, greatestTileSide, mostEdges, detailLimit, builtEntryLimit}
+use Rattle.integers.specs.Units.{stepsPerPixel, greatestDepth, greatestCoordinate, greatestSheetCoordinate, greatestTileDepth, greatestTileSide, mostEdges, widthTimesExtentLimit, detailLimit, builtEntryLimit}
 use Rattle.integers.specs.Ring.{read, ring}
 use Rattle.integers.specs.Order.{nonneg, pos-≤ℤ, ≤ℤ-mul}
 use Rattle.integers.specs.Linear.{le, _&_, linear, lin≤}
@@ -83,15 +84,21 @@ rounded-area-within e c h =
     roundHalfAway-within (steps-pos e)
     (within-is (ring (pos (ax e) ∷ pos (ay e) ∷ c .width ∷ []) (search read depth 40) tt) refl (area-numerator-bound e c h))
 
+-- a sheet's width times its tile's
+pub sheet-times-tile : {depth : ℕ} (s : Square) → depth ≤ greatestTileDepth → s .width ≤ℤ pos greatestSheetCoordinate
+    → (s .width *ℤ pos (cellWidth depth 0)) ≤ℤ pos widthTimesExtentLimit
+sheet-times-tile {depth} s g narrow =
+    let w = pos (cellWidth depth 0) in
+    let t : w ≤ℤ pos (stepsPerPixel * greatestTileSide) = pos-≤ℤ (sheet-tile-width-le g) in
+    lin≤ (s .width ∷ w ∷ []) (le (≤ℤ-mul narrow (nonneg (cellWidth depth 0))) & le t) (search linear depth 40) tt
+
 pub edge-on-sheet-small : {depth : ℕ} {e : Edge} (s : Square) → depth ≤ greatestTileDepth → pos 0 ≤ℤ s .width → s .width ≤ℤ pos greatestSheetCoordinate → OnCell s e
     → Small (roundedArea e (tile depth)) depth e
 edge-on-sheet-small {depth} {e} s g w≥0 narrow on =
     let w = pos (cellWidth depth 0) in
     let t : w ≤ℤ pos (stepsPerPixel * greatestTileSide) = pos-≤ℤ (sheet-tile-width-le g) in
-    let product : (s .width *ℤ w) ≤ℤ pos detailLimit =
-    lin≤ (s .width ∷ w ∷ []) (le (≤ℤ-mul narrow (nonneg (cellWidth depth 0))) & le t) (search linear depth 40) tt in
     let twice : (pos 2 *ℤ (w *ℤ w)) ≤ℤ pos detailLimit = lin≤ (w ∷ []) (le (≤ℤ-mul t (nonneg (cellWidth depth 0))) & le t) (search linear depth 40) tt in
-    edge-small s (roundedArea e (tile depth)) on w≥0 product (within-le twice (rounded-area-within e (tile depth) (nonneg (cellWidth depth 0))))
+    edge-small s (roundedArea e (tile depth)) on w≥0 (sheet-times-tile s g narrow) (within-le twice (rounded-area-within e (tile depth) (nonneg (cellWidth depth 0))))
 
 -- ---- what all of them add, `root` being each edge's part of the root
 pub built-entries : {depth : ℕ} (root : Edge → ℤ) (es : List Edge) → All (λ e. Small (root e) depth e) es → length es ≤ mostEdges

@@ -14,7 +14,7 @@ use lib.Signed.{_≤ℤ_}
 use Rattle.integers.specs.Ring.{read, ring, comb, _⊗_, _⊕_}
 use Rattle.integers.specs.Order.{nonneg}
 use Rattle.integers.specs.RangeSum.{Σ<, Σ-cong, Σ-scale}
-use Rattle.integers.specs.ListSum.{All, all-of, all-map, total, total-cong, total-add, total-const, total-map}
+use Rattle.integers.specs.ListSum.{All, all-of, all-map, total, total-cong, total-add, total-map, total-range}
 use Rattle.integers.specs.Fraction.{common, numer}
 use Rattle.integers.specs.Rounding.{roundHalfAway}
 use Rattle.integers.specs.RoundHalfAway.{roundHalfAway-mul}
@@ -82,12 +82,6 @@ module _ (depth tx ty : ℕ) (es : List Edge) where
       place : moved a b (tile depth) ≡ tileIn (pos 0) (pos 0) (pos (cellWidth depth 0)) tx ty
       place = ap₂ (λ x y. record { left = x; top = y; width = pos (cellWidth depth 0) }) (at-place tx) (at-place ty)
 
--- ---- sums over tiles and edges
-total-sum : {A : Type 0} (m : ℕ) (f : ℕ → A → ℤ) (es : List A) → Σ< m (λ i. total (f i) es) ≡ total (λ e. Σ< m (λ i. f i e)) es
-unfolding Σ<
-total-sum zero f es = sym (total-const (pos 0) es ∙ ring (pos (length es) ∷ []) (search read depth 40) tt)
-total-sum (suc m) f es = ap (λ z. z +ℤ total (f m) es) (total-sum m f es) ∙ sym (total-add (λ e. Σ< m (λ i. f i e)) (f m) es)
-
 -- ---- one edge on the sheet of m × m tiles, w steps wide each
 module _ (m w : ℕ) {e : Edge} (s : Octilinear e) where
   abbrev sheet : Square
@@ -127,8 +121,8 @@ pub tiles-add-up : (m depth : ℕ) {es : List Edge} → ClosedEdges es
     → All (OctilinearOn (record { left = pos 0; top = pos 0; width = pos m *ℤ pos (cellWidth depth 0) })) es
     → Σ< m (λ ty. Σ< m (λ tx. tileRoot depth (fromTile depth tx ty es))) ≡ signedArea es
 tiles-add-up m depth {es} closed on =
-    Σ-cong m _ _ (λ ty h. Σ-cong m _ _ (λ tx k. from-tile-root depth tx ty es) ∙ total-sum m (λ tx e. roundedArea e (place tx ty)) es)
-    ∙ total-sum m (λ ty e. Σ< m (λ tx. roundedArea e (place tx ty))) es
+    Σ-cong m _ _ (λ ty h. Σ-cong m _ _ (λ tx k. from-tile-root depth tx ty es) ∙ total-range m (λ tx e. roundedArea e (place tx ty)) es)
+    ∙ total-range m (λ ty e. Σ< m (λ tx. roundedArea e (place tx ty))) es
     ∙ total-cong _ (λ e. rootTerm e +ℤ gain (rootBoundary sheet) e) es (all-map (λ e o. edge-parts m (cellWidth depth 0) (o .octilinear) (o .on)) es on)
     ∙ total-add rootTerm (gain (rootBoundary sheet)) es
     ∙ comb (total rootTerm es ∷ total (gain (rootBoundary sheet)) es ∷ []) (closed .cancels (rootBoundary sheet)) (search read depth 40) tt

@@ -20,10 +20,10 @@ use Rattle.rasterize.proofs.add_contour.Statement.{statement}
 use Rattle.rasterize.proofs.add_contour.Tie as tie
 
 abbrev Inv-loop : tie.InvT-loop
-Inv-loop table₀ points placement sign depth n k₀ table k = ContourLoop depth (toZ w64 sign) (placed placement points) table₀ table k
+Inv-loop table₀ points placement view sign depth n k₀ table k = ContourLoop view depth (toZ w64 sign) (placed placement points) table₀ table k
 
 abbrev μ-loop : tie.MeasureT-loop
-μ-loop table₀ points placement sign depth n k₀ table k = n - k
+μ-loop table₀ points placement view sign depth n k₀ table k = n - k
 
 -- placing keeps the number of points
 halves : (s : tie.Start Inv-loop μ-loop) → length (placed (s .args .placement) (s .args .points .now)) / 2 ≡ length (s .args .points .now) / 2
@@ -76,7 +76,7 @@ same-length c = c .before .loop .inv .fits .exact ∙ sym (c .before .before .pr
 returns : tie.Need-returns Inv-loop μ-loop
 returns c =
     let s = c .before .before in
-    subst (λ z. c .before .loop .table ≡ added (s .args .table .now) (edgesPart (s .args .depth) z (contourEdges (pointsOf (placed (s .args .placement) (s .args .points .now))))))
+    subst (λ z. c .before .loop .table ≡ added (s .args .table .now) (edgesPart (s .args .view) (s .args .depth) z (contourEdges (pointsOf (placed (s .args .placement) (s .args .points .now))))))
     (back-is tt (s .pre .2)) (contour-end (c .before .loop .inv) (le-trans (le-of-eq (halves s)) (c .loop-test .left)))
 
 pub add-contour-spec : {M : Type 1} → statement M

@@ -12,23 +12,23 @@ use Rattle.integers.specs.Bits.{back, back-is}
 use Rattle.integers.specs.Held.{held-number, held-within}
 use Rattle.integers.specs.ListSum.{All}
 use Rattle.accuracy.specs.Outline.{pointsOf, contoursOf, contourEdges, outlineEdges}
-use Rattle.accuracy.specs.Tile.{OnTile}
 use Rattle.placement.specs.Placed.{placed}
 use Rattle.placement.specs.Laws.PlacedPoints.{placed-length, placed-part, placeable-part}
 use Rattle.rasterize.specs.Ready.{Fits}
+use Rattle.rasterize.specs.Views.{InView}
 use Rattle.rasterize.specs.Added.{added}
 use Rattle.rasterize.specs.Laws.Sums.{edgesPart}
 use Rattle.rasterize.proofs.OutlineLoop.{OutlineLoop, outline-start, outline-end, outline-length}
-use Rattle.rasterize.proofs.OutlineLoop.{outline-bounds, outline-fits, outline-on, outline-step}
+use Rattle.rasterize.proofs.OutlineLoop.{outline-bounds, outline-fits, outline-in, outline-step}
 use Rattle.rasterize.proofs.add_outline.Statement.{statement}
 use Rattle.rasterize.proofs.add_outline.Tie as tie
 
 abbrev Inv-loop : tie.InvT-loop
-Inv-loop table₀ points counts placement sign depth start₀ k₀ k-end table start k =
-    OutlineLoop depth (toZ w64 sign) counts (placed placement points) table₀ table start k × (start ≡ 2 * (start / 2))
+Inv-loop table₀ points counts placement view sign depth start₀ k₀ k-end table start k =
+    OutlineLoop view depth (toZ w64 sign) counts (placed placement points) table₀ table start k × (start ≡ 2 * (start / 2))
 
 abbrev μ-loop : tie.MeasureT-loop
-μ-loop table₀ points counts placement sign depth start₀ k₀ k-end table start k = length counts - k
+μ-loop table₀ points counts placement view sign depth start₀ k₀ k-end table start k = length counts - k
 
 loop-holds : tie.Need-loop-holds Inv-loop μ-loop
 loop-holds c =
@@ -95,7 +95,7 @@ add-contour-requires c κs =
     let same : length (take (finish i - i .before .loop .start) (drop (i .before .loop .start) (placed (entry i .args .placement) (entry i .args .points .now)))) ≡ length (own i) =
     sym (ap length (part-is i)) ∙ placed-length (entry i .args .placement) (own i) in (
       subst (λ n. Fits (i .before .loop .table) (entry i .args .depth) (n / 2)) same (outline-fits l (i .loop-test .taken) refl),
-      subst⁻¹ (λ ps. All (OnTile (entry i .args .depth)) (pointsOf ps)) (part-is i) (outline-on l (i .loop-test .taken) refl),
+      subst⁻¹ (λ ps. All (InView (entry i .args .view) (entry i .args .depth)) (contourEdges (pointsOf ps))) (part-is i) (outline-in l (i .loop-test .taken) refl),
       held-within (held-number tt (entry i .pre .3)),
       placeable-part (entry i .args .placement) (i .before .loop .start) (finish i - i .before .loop .start) (entry i .args .points .now) (entry i .pre .4),
     )
@@ -110,7 +110,7 @@ loop-again : tie.Need-loop-again Inv-loop μ-loop
 loop-again c =
     let i = c .before .before .before .before .before in (
       outline-step (i .before .loop .inv .0) (i .loop-test .taken) refl (held-within (held-number tt (entry i .pre .3)))
-          (subst (λ ps. c .before .add-contour .last .0 ≡ added (i .before .loop .table) (edgesPart (entry i .args .depth) (back (entry i .args .sign)) (contourEdges (pointsOf ps)))) (part-is i)
+          (subst (λ ps. c .before .add-contour .last .0 ≡ added (i .before .loop .table) (edgesPart (entry i .args .view) (entry i .args .depth) (back (entry i .args .sign)) (contourEdges (pointsOf ps)))) (part-is i)
           (c .before .add-contour .ensures)),
       omega (arith, i .before .loop .inv .1),
     )
@@ -122,7 +122,7 @@ returns : tie.Need-returns Inv-loop μ-loop
 returns c =
     let s = c .before .before .before in
     subst (λ z. c .before .loop .table
-    ≡ added (s .args .table .now) (edgesPart (s .args .depth) z (outlineEdges (contoursOf (s .args .counts .now) (placed (s .args .placement) (s .args .points .now))))))
+    ≡ added (s .args .table .now) (edgesPart (s .args .view) (s .args .depth) z (outlineEdges (contoursOf (s .args .counts .now) (placed (s .args .placement) (s .args .points .now))))))
     (back-is tt (s .pre .3)) (outline-end (c .before .loop .inv .0) (c .loop-test .left))
 
 pub add-outline-spec : {M : Type 1} → statement M

@@ -26,7 +26,7 @@ use Rattle.haar.specs.Laws.Layout.{IsDetail, index-pos, SameDetail, index-injec
 use Rattle.haar.specs.Laws.Entries.{entries-detail}
 use Rattle.accuracy.specs.Tile.{square}
 use Rattle.accuracy.specs.ExactDetails.{numbered}
-use Rattle.accuracy.specs.OutlineTable.{edgeTable}
+use Rattle.accuracy.specs.OutlineTable.{edgeTable, rootedTable}
 use Rattle.accuracy.specs.Laws.Numbered.{numbered-none}
 use Rattle.rasterize.specs.declared.Node.{Node}
 use Rattle.rasterize.specs.Nodes.{quarters, quarterNode, nodeAt}
@@ -110,11 +110,11 @@ contribution-root e (suc left) c =
     (Σ-cong quarters _ (λ q. pos 0) (λ q h. contribution-root e left (quarterNode c q)) ∙ Σ-const quarters (pos 0))
 
 -- ---- the table
-pub edge-entries : (e : Edge) (depth i : ℕ) → 1 ≤ i → i < children dimensions ^ depth
-    → contribution e depth (nodeAt depth 0 0 0) i ≡ entryOf depth (edgeTable depth e) i
-edge-entries e depth i l h =
+pub edge-entries : (root : ℤ) (e : Edge) (depth i : ℕ) → 1 ≤ i → i < children dimensions ^ depth
+    → contribution e depth (nodeAt depth 0 0 0) i ≡ entryOf depth (rootedTable root depth e) i
+edge-entries root e depth i l h =
     let d = index-onto dimensions depth i l h in
     let cell = d .cell in
     ap (contribution e depth (nodeAt depth 0 0 0)) (d .at)
     ∙ contribution-detail e depth (d .level) (cell .0) (cell .1 .0) (d .number) (d .below) (d .is-detail)
-    ∙ sym (ap (entryOf depth (edgeTable depth e)) (d .at) ∙ entries-detail (edgeTable depth e) (d .below) (d .is-detail))
+    ∙ sym (ap (entryOf depth (rootedTable root depth e)) (d .at) ∙ entries-detail (rootedTable root depth e) (d .below) (d .is-detail))

@@ -13,9 +13,9 @@ use Rattle.integers.specs.Units.{greatestDepth, detailLimit}
 use Rattle.integers.specs.Within.{Within}
 use Rattle.integers.specs.ListSum.{All}
 use Rattle.edge.specs.declared.Edge.{Edge}
-use Rattle.accuracy.specs.Tile.{EdgeOnTile}
-use Rattle.accuracy.specs.OutlineTable.{edgeTable}
+use Rattle.rasterize.specs.declared.View.{View}
 use Rattle.rasterize.specs.Added.{added, entryOf}
+use Rattle.rasterize.specs.Views.{partTable, InView}
 use Rattle.rasterize.specs.Ready.{visits, Spare, Fits}
 use Rattle.rasterize.specs.Laws.Adding.{added-length}
 use Rattle.rasterize.specs.Laws.Spare.{spare-le, spare-added, signed-within}
@@ -33,9 +33,8 @@ fits-added {t} m n g w f = record {
 }
 
 module _ {t : List ℤ} {depth : ℕ} {sign : ℤ} (s : Within (pos 1) sign) where
-  pub fits-edge : {e : Edge} (n : ℕ) → EdgeOnTile depth e → Fits t depth (1 + n) → Fits (added t (λ i. sign *ℤ entryOf depth (edgeTable depth e) i)) depth n
-  fits-edge {e} n on f = fits-added 1 n (λ i. sign *ℤ entryOf depth (edgeTable depth e) i) (λ i. signed-within s (edge-entry-within (f .shallow) on i)) f
+  pub fits-edge : {view : View} {e : Edge} (n : ℕ) → InView view depth e → Fits t depth (1 + n) → Fits (added t (λ i. sign *ℤ entryOf depth (partTable view depth e) i)) depth n
+  fits-edge {view} {e} n v f = fits-added 1 n (λ i. sign *ℤ entryOf depth (partTable view depth e) i) (λ i. signed-within s (edge-entry-within v i)) f
 
-  pub fits-edges : (es : List Edge) (n : ℕ) → All (EdgeOnTile depth) es → Fits t depth (length es + n)
-      → Fits (added t (edgesPart depth sign es)) depth n
-  fits-edges es n on f = fits-added (length es) n (edgesPart depth sign es) (λ i. signed-within s (outline-entry-within es (f .shallow) on i)) f
+  pub fits-edges : (view : View) (es : List Edge) (n : ℕ) → All (InView view depth) es → Fits t depth (length es + n) → Fits (added t (edgesPart view depth sign es)) depth n
+  fits-edges view es n on f = fits-added (length es) n (edgesPart view depth sign es) (λ i. signed-within s (outline-entry-within view depth es on i)) f
