@@ -1,7 +1,7 @@
 -- Sums over a list, and a property of every element.
 --
 -- Main results
---   all-of, all-map, all-append, all-front, all-back, all-take, all-drop, all-entry        of `All P l`, that every element of l has the property P
+--   all-of, all-map, all-append, all-front, all-back, all-image, all-take, all-drop, all-entry        of `All P l`, that every element of l has the property P
 --   all-getD, getD-all, getD-each     past its end an entry of a list counts as the default: what holds of that too holds of every entry
 --   total-cong, total-add, total-scale, total-neg, total-append, total-const     as of any finite sum
 --   total-within, total-bounded       terms bounded each by its own bound are bounded by the bounds' sum; each by b, by as many times b
@@ -48,6 +48,10 @@ all-front P (a ∷ k) l p = (p .0, all-front P k l (p .1))
 pub all-back : {A : Type 0} (P : A → Type 0) (k l : List A) → All P (k ++ l) → All P l
 all-back P [] l p = p
 all-back P (a ∷ k) l p = all-back P k l (p .1)
+
+pub all-image : {A B : Type 0} (P : B → Type 0) (f : A → B) (l : List A) → All (λ a. P (f a)) l → All P (map f l)
+all-image P f [] p = tt
+all-image P f (a ∷ l) p = (p .0, all-image P f l (p .1))
 
 pub all-take : {A : Type 0} (P : A → Type 0) (n : ℕ) (l : List A) → All P l → All P (take n l)
 all-take P zero l p = tt

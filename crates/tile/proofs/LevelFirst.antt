@@ -14,7 +14,7 @@ use Rattle.tile.specs.Questions.{Question, Yes, firstNo}
 use Rattle.tile.specs.Inner.{levelQuestions}
 use Rattle.tile.specs.Laws.FirstNo.{firstNo-zero}
 use Rattle.tile.specs.Laws.Answers.{level-le}
-use Rattle.tile.proofs.Asking.{After, first-refused, first-passed}
+use Rattle.tile.specs.Laws.Asking.{After, first-refused, first-passed}
 
 -- by what `level_refusal` answered
 module _ (side level : ℕ) (table : List ℤ) {number : ℕ} (e : number ≡ firstNo (levelQuestions side level table)) where

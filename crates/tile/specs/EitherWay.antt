@@ -27,18 +27,15 @@
 --   either-way-placed-accepted,
 --   either-way-placed-table,
 --   either-way-placed-greys      the same with placements; to be accepted, the other must pass question 12 too
---   either-way-held-edges,
---   either-way-held-table,
---   either-way-held-greys        and of tiles that hold such contours (`Holding`), as series of corrections leave them: the records are the same too
 -- Instance
 --   letterA-back                 01's letter A walked back from its first point
-use mathlib.Core.Path.{_≡_, refl, sym, _∙_, ap, ap₂, fun-ext, subst₂}
+use mathlib.Core.Path.{_≡_, refl, sym, _∙_, ap, ap₂, fun-ext}
 use mathlib.Core.Bool.{Bool}
-use mathlib.Core.List.{List, [], _∷_, map, reverse-perm, Perm·refl}
+use mathlib.Core.List.{List, [], _∷_, map, reverse-perm}
 use Prim.Native.Nat.{ℕ, zero, suc, _*_, _^_}
 use native.Mathlib.Omega.{arith}
 use lib.Dec.{eqb, leb}
-use lib.ListN.{length, length-map, replicate, length-replicate}
+use lib.ListN.{length, length-map}
 use lib.IntN.{ℤ, pos, negℤ, _*ℤ_}
 use Rattle.integers.specs.Units.{stepsPerPixel, mostEdges, entryLimit}
 use Rattle.integers.specs.Ring.{read, ring}
@@ -65,13 +62,11 @@ use Rattle.tile.specs.Refusals.{building-refusals, placed-refusals, ques
 use Rattle.tile.specs.DrawnFigures.{figures-drawn}
 use Rattle.tile.specs.Faithful.{figureNum}
 use Rattle.tile.specs.PlacedOutline.{placed-number}
-use Rattle.tile.specs.Corrections.{Tile, Contour}
-use Rattle.tile.specs.Holding.{coordinates, countsOf, HoldsContours}
 use Rattle.tile.specs.Letters.{letterA, counts as one-count}
 use Rattle.tile.specs.Laws.IfDone.{if-done}
 use Rattle.tile.specs.Laws.Accepted.{accepted, placed-accepted}
 use Rattle.tile.specs.Laws.BuiltTable.{built-is}
-use Rattle.tile.specs.Laws.Written.{contours-back, coordinates-back}
+use Rattle.tile.specs.Laws.Written.{coordinates-back}
 use Rattle.tile.specs.Laws.ReversedContours.{back-every}
 
 abbrev pub opposite : List ℤ → List ℤ
@@ -197,29 +192,6 @@ either-way-placed-accepted side points counts before points′ counts′ other p
     placed-number side points′ counts′ other p′ movable
     ∙ either-way-accepted (placed p points) counts (placed p′ points′) counts′ (placed-accepted side points counts p before done .points-length)
     (placed-length p′ points′ ∙ long′) back side before other (sym (placed-number side points counts before p asked) ∙ done) four e
-
--- ---- two tiles that hold contours, as building and lawful corrections leave them (`holds-built`, `series` of `SeriesTheorem`): each table is what building
--- these leaves
-module _ (side : ℕ) (cs ds : List Contour) (t u : Tile) (held : HoldsContours side cs t) (held′ : HoldsContours side ds u)
-    (back : EdgesReversed (outlineEdges cs) (outlineEdges ds)) where
-  pub either-way-held-edges : u .edges ≡ t .edges
-  either-way-held-edges =
-      sym (held′ .faithful ds (Perm·refl ds) .counted refl) ∙ length-reversed (outlineEdges cs) back ∙ held .faithful cs (Perm·refl cs) .counted refl
-
-  pub either-way-held-table : u .table ≡ opposite (t .table)
-  either-way-held-table =
-      let blank = replicate (side * side) (pos 0) in
-      let long = length-replicate (side * side) (pos 0) in
-      sym (held′ .table-built ds (Perm·refl ds) blank long)
-      ∙ either-way-table side (coordinates cs) (countsOf cs) blank (coordinates ds) (countsOf ds) blank
-      (ap (λ b. b .number) (held .count-built cs (Perm·refl cs) blank long))
-      (ap (λ b. b .number) (held′ .count-built ds (Perm·refl ds) blank long))
-      (subst₂ (λ k l. EdgesReversed (outlineEdges k) (outlineEdges l)) (sym (contours-back cs)) (sym (contours-back ds)) back)
-      ∙ ap opposite (held .table-built cs (Perm·refl cs) blank long)
-
-  pub either-way-held-greys : (level : ℕ) (picture : List ℕ) → greysPicture side level (u .table) picture ≡ greysPicture side level (t .table) picture
-  either-way-held-greys level picture =
-      ap (λ l. greysPicture side level l picture) either-way-held-table ∙ opposite-greys side (t .table) level picture
 
 -- (0,0) (0,256) (256,256) (256,0)
 pub letterA-back : EdgesReversed (edgesOf (letterA .points) (one-count letterA))

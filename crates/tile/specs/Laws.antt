@@ -16,15 +16,13 @@ pub mod DrawnTable
 pub mod DrawnArea
 -- a given outline's table and pictures, by computing them
 pub mod Computed
--- the outline of contours; contours whose values add up to a table
+-- contours written as an outline
 pub mod Written
-pub mod AddingUp
--- the tile that holds contours, by sums
-pub mod Held
--- the contour of a call; what the call makes of a tile that holds contours
-pub mod AskedContour
-pub mod Kept
--- a series of calls of any kind
-pub mod Runs
 -- contours with their points in the reverse order
 pub mod ReversedContours
+-- ---- for the proofs of code, here and in the crates of 02's calls: questions one after the other; the counts' sum; room for edges; from a cleared table
+-- to an outline's
+pub mod Asking
+pub mod CountsSum
+pub mod Room
+pub mod Building

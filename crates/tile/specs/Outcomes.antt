@@ -1,12 +1,12 @@
 -- What each call answers, and what each buffer holds afterwards, for every input. The number in an answer is 0 where the work is done, which is ours:
 -- 01's numbers begin at 1. "A refusal carries its number and the edge count or figure 0; tables and pictures keep what they held."
--- (What putting in and taking out answer and leave is in `Corrections`.)
 --
 -- Definitions
 --   ifDone number a b                        a where the number is 0, and else b
 --   edgesOf points counts                    the edges of an outline
 --   tableOf side points counts               the table of an outline: its entries, in order
 --   edgesTable side es                       the same of a list of edges, whatever kind of outline they are of
+--   tableWith side root es                   and with another root than the signed area
 --   buildRefusal, buildResult, buildTable    building: the number; the number and the edge count; the table afterwards
 --   placedRefusal, placedResult, placedTable building with a placement: the same, and the table is that of the outline as placed
 --   drawRefusal                              pictures of figures or of greys: the number
@@ -24,7 +24,7 @@ use Rattle.haar.specs.Plane.{dimensions, figureIn, pictureIn}
 use Rattle.placement.specs.declared.Placement.{Placement}
 use Rattle.placement.specs.Placed.{placed}
 use Rattle.accuracy.specs.Outline.{contoursOf, edgeCount, outlineEdges}
-use Rattle.accuracy.specs.OutlineTable.{outlineTable}
+use Rattle.accuracy.specs.OutlineTable.{outlineTable, tableFrom}
 use Rattle.tile.specs.declared.Built.{Built}
 use Rattle.tile.specs.declared.CellFigure.{CellFigure}
 use Rattle.tile.specs.Questions.{depthOf, firstNo, buildingQuestions, placedQuestions, drawingQuestions, cellQuestions}
@@ -44,6 +44,9 @@ tableOf side points counts = entries dimensions (depthOf side) (outlineTable (de
 
 abbrev pub edgesTable : ℕ → List Edge → List ℤ
 edgesTable side es = entries dimensions (depthOf side) (outlineTable (depthOf side) es)
+
+abbrev pub tableWith : ℕ → ℤ → List Edge → List ℤ
+tableWith side root es = entries dimensions (depthOf side) (tableFrom root (depthOf side) es)
 
 abbrev pub buildRefusal : ℕ → List ℤ → List ℕ → List ℤ → ℕ
 buildRefusal side points counts table = firstNo (buildingQuestions side points counts table)

@@ -4,13 +4,13 @@
 --
 -- Main results
 --   placed-number                where the placement is accepted the questions are building's, of the points as placed
---   placed-none-in               they are an outline's questions where no edge is in already
+--   placed-none-in               they are those about the tile and about the outline, where no edge is in already
 --   placed-as-built              so the answer and the table are those of building the outline as placed
 --   placed-none-as-built         with no placement they are building's, for every input
 --   placed-faithful              and what is left is drawn as `FaithfulPlaced` says
 use mathlib.Core.Path.{_≡_, refl, sym, _∙_, ap, ap₂}
 use mathlib.Core.Bool.{Bool}
-use mathlib.Core.List.{List, [], _∷_}
+use mathlib.Core.List.{List, [], _∷_, _++_}
 use Prim.Native.Nat.{ℕ, _+_, _*_}
 use native.Mathlib.Omega.{arith}
 use lib.Dec.{eqb, leb}
@@ -23,7 +23,7 @@ use Rattle.placement.specs.Placed.{placed}
 use Rattle.placement.specs.Laws.PlacedPoints.{placed-none, placed-length}
 use Rattle.accuracy.specs.Outline.{edgeCount}
 use Rattle.tile.specs.declared.Built.{Built}
-use Rattle.tile.specs.Questions.{Yes, firstNo, question1, question2, question3, question4, question5, question6, question12, outlineQuestions}
+use Rattle.tile.specs.Questions.{Yes, firstNo, question1, question2, question3, question4, question5, question6, question12, tileQuestions, outlineQuestions}
 use Rattle.tile.specs.Outcomes.{ifDone, tableOf, buildRefusal, buildResult, buildTable, placedRefusal, placedResult, placedTable}
 use Rattle.tile.specs.Faithful.{FaithfulPlaced}
 use Rattle.tile.specs.Theorem.{outline-faithful}
@@ -45,7 +45,7 @@ module _ (side : ℕ) (points : List ℤ) (counts : List ℕ) (table : List ℤ)
       ∷ record { number = 12; answer = movable } ∷ question6 side (placed placement points) ∷ []) in
       ap₂ number same asked
 
-  pub placed-none-in : (placement : Placement) → firstNo (outlineQuestions side points counts placement 0 table) ≡ placedRefusal side points counts placement table
+  pub placed-none-in : (placement : Placement) → firstNo (tileQuestions side table ++ outlineQuestions side points counts placement 0) ≡ placedRefusal side points counts placement table
   placed-none-in placement =
       let same : 0 + edgeCount counts ≡ edgeCount counts = omega arith in
       let number : ℕ → ℕ = λ edges.

@@ -6,13 +6,12 @@
 --   DecidedBy before q                     the questions before q are answered yes, and q is answered no
 --   question1 .. question10                01's ten questions
 --   question12                             02's question about a placement
---   question5Beside, question13,
---   question9Twice                         and its questions about a contour that is put into a tile or taken out
+--   question5Beside                        question 5 beside edges that are in already
 --   firstNo qs                             the number of the first question whose answer is no; 0 where all are yes
 --   buildingQuestions, drawingQuestions,
 --   cellQuestions                          what building, pictures and greys, and one cell ask
 --   placedQuestions                        what building with a placement asks
---   outlineQuestions                       the same beside edges that are in already; what putting in and taking out ask is in `Corrections`
+--   tileQuestions, outlineQuestions        its two parts: about the tile, and about the outline, beside edges that are in already
 use mathlib.Core.Path.{_≡_}
 use mathlib.Core.Bool.{Bool, true, false, _&&_, cond}
 use mathlib.Core.List.{List, [], _∷_}
@@ -98,14 +97,6 @@ question12 placement points = record { number = 12; answer = placeable placement
 abbrev pub question5Beside : ℕ → List ℕ → Question
 question5Beside already counts = record { number = 5; answer = leb (already + edgeCount counts) mostEdges }
 
--- "Taking out more edges than the record counts gives 13": does the record count as many as are taken out?
-abbrev pub question13 : ℕ → ℕ → Question
-question13 out edges = record { number = 13; answer = leb out edges }
-
--- "Question 9 is decided on the table before the call and on the one it would leave." It is one question, and has one number.
-abbrev pub question9Twice : List ℤ → List ℤ → Question
-question9Twice before left = record { number = 9; answer = question9 before .answer && question9 left .answer }
-
 -- ---- "The first "no" decides."
 abbrev pub firstNo : List Question → ℕ
 firstNo [] = 0
@@ -130,8 +121,11 @@ placedQuestions side points counts placement table =
     question1 side ∷ question2 side table ∷ question4 counts ∷ question5 counts ∷ question3 points counts ∷ question12 placement points
     ∷ question6 side (placed placement points) ∷ []
 
--- the same where so many edges are in the table already
-abbrev pub outlineQuestions : ℕ → List ℤ → List ℕ → Placement → ℕ → List ℤ → List Question
-outlineQuestions side points counts placement already table =
-    question1 side ∷ question2 side table ∷ question4 counts ∷ question5Beside already counts ∷ question3 points counts
-    ∷ question12 placement points ∷ question6 side (placed placement points) ∷ []
+-- ---- in two parts, of which the calls of 02 are made too: about the tile, and about an outline. There question 6 reads a side of its own, `reach`, and so many
+-- edges are in the table already.
+abbrev pub tileQuestions : ℕ → List ℤ → List Question
+tileQuestions side table = question1 side ∷ question2 side table ∷ []
+
+abbrev pub outlineQuestions : ℕ → List ℤ → List ℕ → Placement → ℕ → List Question
+outlineQuestions reach points counts placement already =
+    question4 counts ∷ question5Beside already counts ∷ question3 points counts ∷ question12 placement points ∷ question6 reach (placed placement points) ∷ []

@@ -35,8 +35,7 @@ use Rattle.accuracy.specs.Laws.Reversal.{EdgesReversed, outlineEdges-reverse}
 use Rattle.tile.specs.Questions.{firstNo, question1, question4, question5}
 use Rattle.tile.specs.Outcomes.{ifDone, edgesOf, buildRefusal, buildResult, buildTable, placedRefusal, placedResult, placedTable, greysPicture}
 use Rattle.tile.specs.PlacedOutline.{placed-none-as-built}
-use Rattle.tile.specs.Corrections.{Contour}
-use Rattle.tile.specs.Holding.{coordinatesOf, coordinates, countsOf}
+use Rattle.tile.specs.Written.{Contour, coordinatesOf, coordinates, countsOf}
 use Rattle.tile.specs.Letters.{letterA, letterB, letterG, letterH, counts as one-count}
 use Rattle.tile.specs.Laws.Accepted.{accepted, placed-accepted}
 use Rattle.tile.specs.Laws.Written.{contours-back, coordinates-length, coordinates-back}

@@ -34,13 +34,13 @@ use Rattle.tile.specs.Questions.{depthOf, Yes, question1}
 use Rattle.tile.specs.Outcomes.{edgesOf, tableOf, buildRefusal, buildTable}
 use Rattle.tile.specs.Refusals.{building-refusals, question2-means}
 use Rattle.tile.specs.Laws.Sides.{side-cells}
-use Rattle.tile.specs.Laws.Accepted.{accepted, accepted-count, accepted-edges}
+use Rattle.tile.specs.Laws.Accepted.{accepted, accepted-count, accepted-alone}
 use Rattle.tile.specs.Laws.BuiltTable.{built-is, table-length}
 
 module _ (side : ℕ) (points : List ℤ) (counts : List ℕ) (before : List ℤ) (done : buildRefusal side points counts before ≡ 0) where
   pub built-length : length (buildTable side points counts before) ≡ side * side
   built-length =
-      ap length (built-is side points counts before done) ∙ table-length side (edgesOf points counts) (accepted side points counts before done .is-side)
+      ap length (built-is side points counts before done) ∙ table-length side (signedArea (edgesOf points counts)) (edgesOf points counts) (accepted side points counts before done .is-side)
 
   pub built-root : getD (buildTable side points counts before) 0 (pos 0) ≡ signedArea (edgesOf points counts)
   built-root =
@@ -61,19 +61,19 @@ module _ (side : ℕ) (points : List ℤ) (counts : List ℕ) (before : List ℤ
   -- lead from a cell's exact area to its quarters'
   pub exact-whole :
       exactAreaNum (depthOf side) (edgesOf points counts) 0 (at 0 0) ≡ signedArea (edgesOf points counts) *ℤ pos (denominator (edgesOf points counts))
-  exact-whole = accepted-edges (accepted side points counts before done) .accurate .whole
+  exact-whole = accepted-alone (accepted side points counts before done) .whole
 
   pub exact-quarter : (j cx cy : ℕ) → j < depthOf side
       → pos 4 *ℤ exactAreaNum (depthOf side) (edgesOf points counts) (suc j) (at cx cy)
       ≡ exactAreaNum (depthOf side) (edgesOf points counts) j (at (cx / 2) (cy / 2))
       +ℤ quarterDetails (exactDetailNum (depthOf side) (edgesOf points counts) j (at (cx / 2) (cy / 2))) (cx % 2) (cy % 2)
-  exact-quarter = accepted-edges (accepted side points counts before done) .accurate .quarter
+  exact-quarter = accepted-alone (accepted side points counts before done) .accurate .quarter
 
   -- "h: area in the left half less area in the right half; v: upper half less lower half; d: upper left and lower right quarters, less the other two"
   pub exact-differences : (j cx cy : ℕ) → j < depthOf side
       → QuarterDifferences (λ a b. exactAreaNum (depthOf side) (edgesOf points counts) (suc j) (at (2 * cx + a) (2 * cy + b)))
       (exactDetailNum (depthOf side) (edgesOf points counts) j (at cx cy))
-  exact-differences = accepted-edges (accepted side points counts before done) .accurate .differences
+  exact-differences = accepted-alone (accepted side points counts before done) .accurate .differences
 
   pub edges-counted : length (edgesOf points counts) ≡ edgeCount counts
   edges-counted = accepted-count (accepted side points counts before done)

@@ -22,11 +22,11 @@ use Rattle.haar.specs.Laws.Pictures.{picture-length, picture-same}
 use Rattle.accuracy.specs.Outline.{signedArea}
 use Rattle.accuracy.specs.Tile.{CellOf}
 use Rattle.accuracy.specs.ExactArea.{denominator, exactAreaNum}
-use Rattle.accuracy.specs.OutlineTable.{outlineTable}
+use Rattle.accuracy.specs.OutlineTable.{tableFrom}
 use Rattle.accuracy.specs.Accurate.{twiceMissLimit}
 use Rattle.accuracy.specs.Laws.Denominator.{denominator-pos}
 use Rattle.tile.specs.Questions.{depthOf}
-use Rattle.tile.specs.Outcomes.{ifDone, edgesOf, tableOf, edgesTable, buildRefusal, buildTable, cellResult}
+use Rattle.tile.specs.Outcomes.{ifDone, edgesOf, tableOf, tableWith, buildRefusal, buildTable, cellResult}
 use Rattle.tile.specs.DrawnFigures.{figures-drawn, greys-drawn, figure-in-picture, grey-in-picture, figure-alone}
 use Rattle.tile.specs.Faithful.{figureNum, CellDrawn, Drawn, FaithfulOutline, Faithful}
 use Rattle.tile.specs.Refusals.{question2-means, question7-means}
@@ -36,15 +36,16 @@ use Rattle.tile.specs.Laws.Answers.{in-range-entries}
 use Rattle.tile.specs.Laws.Accepted.{Accepted, accepted, accepted-count, AcceptedEdges, accepted-edges}
 use Rattle.tile.specs.Laws.BuiltTable.{table-length, table-same, table-in-range}
 use Rattle.tile.specs.Laws.DrawnTable.{LevelYes, drawn-accepted, cell-accepted}
-use Rattle.tile.specs.Laws.DrawnArea.{area-within, miss-limit-cells}
+use Rattle.tile.specs.Laws.DrawnArea.{area-within}
 
 equal-of-zero : (x y : ℤ) → x -ℤ y ≡ pos 0 → x ≡ y
 equal-of-zero x y e = comb (x ∷ y ∷ []) e (search read depth 40) tt
 
 -- ---- edges that are accepted, and a level of their tile
-module _ {side : ℕ} {es : List Edge} (a : AcceptedEdges side es) (level : ℕ) (shallow : level ≤ depthOf side) where
+module _ {side : ℕ} {rootOf : List Edge → ℤ} {twiceLimit : ℕ → ℕ → ℕ} {es : List Edge} (a : AcceptedEdges side rootOf twiceLimit es) (level : ℕ)
+    (shallow : level ≤ depthOf side) where
   abbrev table : List ℤ
-  table = edgesTable side es
+  table = tableWith side (rootOf es) es
 
   abbrev exact : ℕ → ℕ → ℤ
   exact cx cy = figureNum side es level cx cy
@@ -55,14 +56,14 @@ module _ {side : ℕ} {es : List Edge} (a : AcceptedEdges side es) (level : ℕ)
   yes : LevelYes side level table
   yes = record {
     yes1 = a .is-side;
-    yes2 = question2-means side table .1 (table-length side es (a .is-side));
+    yes2 = question2-means side table .1 (table-length side (rootOf es) es (a .is-side));
     yes7 = question7-means side level .1 shallow;
-    yes9 = in-range-entries table (table-in-range side es a);
+    yes9 = in-range-entries table (table-in-range a);
   }
 
   -- the figures of the list of entries are those of the edges' table
-  same-figure : (cx cy : ℕ) → cx < 2 ^ level → cy < 2 ^ level → figureIn table level cx cy ≡ figureAt (outlineTable (depthOf side) es) level cx cy
-  same-figure cx cy h k = figure-same (table-same side es) level shallow (at cx cy) (h, (k, tt))
+  same-figure : (cx cy : ℕ) → cx < 2 ^ level → cy < 2 ^ level → figureIn table level cx cy ≡ figureAt (tableFrom (rootOf es) (depthOf side) es) level cx cy
+  same-figure cx cy h k = figure-same (table-same side (rootOf es) es) level shallow (at cx cy) (h, (k, tt))
 
   power : side ≡ 2 ^ depthOf side
   power = side-power side (a .is-side)
@@ -74,12 +75,12 @@ module _ {side : ℕ} {es : List Edge} (a : AcceptedEdges side es) (level : ℕ)
     figure : cellResult side level cx cy table .figure ≡ figureIn table level cx cy
     figure = figure-alone side level cx cy table (cell-accepted yes cx cy x-below y-below)
 
-    cell-close : (pos 2 *ℤ abs (cellResult side level cx cy table .figure *ℤ pos den -ℤ exact cx cy)) ≤ℤ pos (twiceMissLimit level (length es) * den)
+    cell-close : (pos 2 *ℤ abs (cellResult side level cx cy table .figure *ℤ pos den -ℤ exact cx cy)) ≤ℤ pos (twiceLimit level (length es) * den)
     cell-close =
-        subst (λ (f : ℤ). (pos 2 *ℤ abs (f *ℤ pos den -ℤ exact cx cy)) ≤ℤ pos (twiceMissLimit level (length es) * den))
+        subst (λ (f : ℤ). (pos 2 *ℤ abs (f *ℤ pos den -ℤ exact cx cy)) ≤ℤ pos (twiceLimit level (length es) * den))
         (sym (figure ∙ same-figure cx cy x-below y-below)) (a .accurate .close level cx cy cell)
 
-    cell-drawn : CellDrawn side es twiceMissLimit table level cx cy
+    cell-drawn : CellDrawn side es twiceLimit table level cx cy
     cell-drawn =
         let same = same-figure cx cy x-below y-below in
         record {
@@ -90,14 +91,14 @@ module _ {side : ℕ} {es : List Edge} (a : AcceptedEdges side es) (level : ℕ)
           equal = λ octilinear. ap (λ f. f *ℤ pos den) (figure ∙ same) ∙ equal-of-zero _ _ (a .accurate .equal octilinear level cx cy cell);
           area =
               area-within (cellResult side level cx cy table .figure) (exactAreaNum (depthOf side) es level (at cx cy)) (4 ^ level) den
-              (twiceMissLimit level (length es)) (length es) (miss-limit-cells level (length es)) cell-close;
+              (twiceLimit level (length es)) (length es) (a .limited level (length es)) cell-close;
           greys = λ picture e.
               subst₂ OneApart
               (sym (grey-in-picture side level table cx cy x-below y-below picture (drawn-accepted yes (length picture) e) ∙ ap₂ greyOf power same))
               (ap (λ s. grey s (exact cx cy) den) (sym power)) (a .accurate .greys (a .few-edges) level cx cy cell);
         }
 
-  pub table-drawn : Drawn side es (signedArea es) twiceMissLimit table level
+  pub table-drawn : Drawn side es (rootOf es) twiceLimit table level
   table-drawn =
       record {
         not-refused = drawn-accepted yes (4 ^ level) refl;
@@ -106,9 +107,9 @@ module _ {side : ℕ} {es : List Edge} (a : AcceptedEdges side es) (level : ℕ)
         each-cell = cell-drawn;
         totals = λ picture e.
             ap (total (λ f. f))
-            (figures-drawn side level table picture (drawn-accepted yes (length picture) e) ∙ picture-same (table-same side es) (λ f. f) level shallow)
+            (figures-drawn side level table picture (drawn-accepted yes (length picture) e) ∙ picture-same (table-same side (rootOf es) es) (λ f. f) level shallow)
             ∙ a .accurate .totals level;
-        root-entry = table-same side es .same-root;
+        root-entry = table-same side (rootOf es) es .same-root;
       }
 
 -- ---- every input of a call: what it answers says whether the outline is accepted

@@ -1,4 +1,5 @@
-// A letter's outline into a table of Haar coefficients, contours put in and taken out, and pictures at every halving: the seven public calls.
+// A letter's outline into a table of Haar coefficients, and pictures at every halving: five calls. (Those for a tile of a sheet are in `sheet`, putting in and
+// taking out in `corrections`; what they share with these is public too, and asks nothing of its caller either.)
 //
 // None asks anything of its caller. Each asks its questions of what it is given, in the papers' order; the first "no" decides, and its number is the
 // answer. Where all are answered yes the answer is 0 and the work is done. A refused call changes nothing.
@@ -10,18 +11,14 @@ ghost use lib.Dec.{leb};
 ghost use mathlib.Core.Bool.{_&&_};
 ghost use Rattle.integers.specs.Units.{greatestSide, greatestDepth, fewestPoints, mostPoints};
 ghost use Rattle.tile.specs.Questions.{depthOf, firstNo, question1, question2, question4, question7, question8, question9, question10};
-ghost use Rattle.tile.specs.Questions.{outlineQuestions};
+ghost use Rattle.tile.specs.Questions.{tileQuestions, outlineQuestions};
 ghost use Rattle.tile.specs.Outcomes.{buildResult, buildTable, placedResult, placedTable, drawRefusal, figuresPicture, greysPicture, cellRefusal, cellResult};
 ghost use Rattle.tile.specs.Faithful.{Faithful, FaithfulPlaced};
-ghost use Rattle.tile.specs.Corrections.{tileOf, putting, taking, correctRefusal, corrected};
-ghost use Rattle.tile.specs.Holding.{HoldsOneMore, HoldsOneLess};
 ghost use Rattle.tile.specs.Inner.{cappedEdges, levelQuestions};
 ghost use Rattle.tile.specs.EntrySearch.{entriesLookedAt};
-use corrections::Change;
 use integers::Searched;
 use placement::Placement;
-
-mod corrections;
+use rasterize::View;
 
 // What building answers: the number of its refusal, or 0, and the edge count.
 pub struct Built {
@@ -54,7 +51,7 @@ const MOST_EDGES: usize = 1024;
 const ENTRY_LIMIT: i64 = 1 << 40;
 
 // The answer where the work is done.
-const DONE: u32 = 0;
+pub const DONE: u32 = 0;
 
 // The numbers of refusals. Question 1: is the side one of a tile?
 const NO_SIDE: u32 = 1;
@@ -71,7 +68,7 @@ const NO_COUNT: u32 = 4;
 // Question 5: is the counts' sum, with the edges that are in already, at most the most edges?
 const NO_SUM: u32 = 5;
 
-// Question 6: is every coordinate, as placed, on the tile?
+// Question 6: is every coordinate, as placed, on the tile, or on the sheet?
 const NO_COORDINATE: u32 = 6;
 
 // Question 7: does the tile have the level?
@@ -81,7 +78,7 @@ const NO_LEVEL: u32 = 7;
 const NO_PICTURE: u32 = 8;
 
 // Question 9: is every entry of the table in range?
-const NO_RANGE: u32 = 9;
+pub const NO_RANGE: u32 = 9;
 
 // Question 10: does the level have the cell?
 const NO_CELL: u32 = 10;
@@ -89,23 +86,20 @@ const NO_CELL: u32 = 10;
 // Question 12: are the placement's floats, and the points that it moves, as they must be?
 const NO_PLACEMENT: u32 = 12;
 
-// Question 13: does the record count as many edges as are taken out?
-const NO_RECORD: u32 = 13;
-
 // Building counts no edges but the outline's own.
-const NONE_IN: u32 = 0;
+pub const NONE_IN: u32 = 0;
 
 // ---- the questions
 
 // Question 1: exactly one bit of the side is set, and it is no greater than the greatest.
-fn is_side(side: u32) -> bool
+pub fn is_side(side: u32) -> bool
     ensures { λ b. ⌜ b ≡ question1 side .answer ⌝ }
 {
     u32::count_ones(side) == 1 && side <= GREATEST_SIDE
 }
 
 // The depth of a tile: the zeros below the side's one bit.
-fn depth_of(side: u32) -> usize
+pub fn depth_of(side: u32) -> usize
     ensures { λ r. ⌜ r ≡ depthOf side ⌝ }
 {
     u32::trailing_zeros(side) as usize
@@ -141,7 +135,7 @@ fn are_counts(counts: &[u32]) -> bool
 }
 
 // The counts' sum, or one more than the most edges where it is greater: there may be any number of counts, and their sum may pass what a word holds.
-fn edges_of(counts: &[u32]) -> usize
+pub fn edges_of(counts: &[u32]) -> usize
     ensures { λ r. ⌜ r ≡ cappedEdges (now (counts .entry)) ⌝ }
 {
     let mut sum = 0;
@@ -174,7 +168,7 @@ fn is_picture(level: u32, size: usize) -> bool
 
 // Question 9, which is asked of the whole table whatever is drawn of it. How many entries were looked at is 02's answer beside it: what the two say is
 // in specs/EntrySearch. Question 9 is asked through this one alone, and no call passes the count on.
-fn search_entries(table: &[i64]) -> Searched
+pub fn search_entries(table: &[i64]) -> Searched
     ensures { λ s. ⌜ s .within ≡ question9 (now (table .entry)) .answer ⌝ }
     ensures { λ s. ⌜ s .looked ≡ entriesLookedAt (now (table .entry)) ⌝ }
 {
@@ -190,16 +184,9 @@ fn is_cell(level: u32, cx: u32, cy: u32) -> bool
     (cx as usize) < n && (cy as usize) < n
 }
 
-// The questions about an outline, beside `already` edges that are in the table: the first "no", or 0.
-fn outline_refusal(
-    side: u32,
-    points: &[i64],
-    counts: &[u32],
-    placement: Placement,
-    already: u32,
-    table: &[i64],
-) -> u32
-    ensures { λ r. ⌜ r ≡ firstNo (outlineQuestions side (now (points .entry)) (now (counts .entry)) placement already (now (table .entry))) ⌝ }
+// The questions about a tile alone: the first "no", or 0.
+pub fn tile_refusal(side: u32, table: &[i64]) -> u32
+    ensures { λ r. ⌜ r ≡ firstNo (tileQuestions side (now (table .entry))) ⌝ }
 {
     if !is_side(side) {
         return NO_SIDE;
@@ -207,6 +194,19 @@ fn outline_refusal(
     if !is_table(side, table) {
         return NO_TABLE;
     }
+    DONE
+}
+
+// The questions about an outline, beside `already` edges that are in the table: the first "no", or 0. Question 6 reads the side `reach`.
+pub fn outline_refusal(
+    reach: u32,
+    points: &[i64],
+    counts: &[u32],
+    placement: Placement,
+    already: u32,
+) -> u32
+    ensures { λ r. ⌜ r ≡ firstNo (outlineQuestions reach (now (points .entry)) (now (counts .entry)) placement already) ⌝ }
+{
     if !are_counts(counts) {
         return NO_COUNT;
     }
@@ -220,7 +220,7 @@ fn outline_refusal(
     if !placement::is_placeable(placement, points) {
         return NO_PLACEMENT;
     }
-    if !placement::all_placed_within(placement, points, 0, STEPS_PER_PIXEL * side as i64) {
+    if !placement::all_placed_within(placement, points, 0, STEPS_PER_PIXEL * reach as i64) {
         return NO_COORDINATE;
     }
     DONE
@@ -230,11 +230,9 @@ fn outline_refusal(
 fn level_refusal(side: u32, level: u32, table: &[i64]) -> u32
     ensures { λ r. ⌜ r ≡ firstNo (levelQuestions side level (now (table .entry))) ⌝ }
 {
-    if !is_side(side) {
-        return NO_SIDE;
-    }
-    if !is_table(side, table) {
-        return NO_TABLE;
+    let number = tile_refusal(side, table);
+    if number != DONE {
+        return number;
     }
     if !is_level(side, level) {
         return NO_LEVEL;
@@ -276,10 +274,10 @@ fn cell_refusal(side: u32, level: u32, cx: u32, cy: u32, table: &[i64]) -> u32
     DONE
 }
 
-// ---- the seven calls
+// ---- the five calls
 
 // Sets every entry to 0.
-fn clear(table: &mut [i64])
+pub fn clear(table: &mut [i64])
     ensures { λ _. ⌜ now (table .exit) ≡ replicate (length (now (table .entry))) (pos 0) ⌝ }
 {
     for i in 0..table.len() {
@@ -312,55 +310,31 @@ pub fn build_placed(
     ensures { λ _. ⌜ FaithfulPlaced side (now (points .entry)) (now (counts .entry)) placement (now (table .entry)) (now (table .exit)) ⌝ }
     ensures { λ _. ⌜ (now (points .exit) ≡ now (points .entry)) × (now (counts .exit) ≡ now (counts .entry)) ⌝ }
 {
-    let number = outline_refusal(side, points, counts, placement, NONE_IN, table);
+    let refusal = tile_refusal(side, table);
+    if refusal != DONE {
+        return Built {
+            number: refusal,
+            edges: 0,
+        };
+    }
+    let number = outline_refusal(side, points, counts, placement, NONE_IN);
     if number != DONE {
         return Built { number, edges: 0 };
     }
     clear(table);
-    rasterize::add_outline(table, points, counts, placement, 1, depth_of(side));
+    rasterize::add_outline(
+        table,
+        points,
+        counts,
+        placement,
+        View::Alone,
+        1,
+        depth_of(side),
+    );
     Built {
         number: DONE,
         edges: edges_of(counts) as u32,
     }
-}
-
-// Puts a contour into a tile, which is a table with the record of its edge count: `points` has x and y of each of its `count` points in turn, and the
-// contour is these as placed. The answer is 0, and what the contour adds to each entry is added to the table, and its count to the record. Or it is the
-// number of the first question that is answered no, and table and record are as they were.
-pub fn put(
-    side: u32,
-    points: &[i64],
-    count: u32,
-    placement: Placement,
-    edges: &mut u32,
-    table: &mut [i64],
-) -> u32
-    ensures { λ r. ⌜ r ≡ correctRefusal (putting side (now (points .entry)) count placement) (tileOf (now (table .entry)) (now (edges .entry))) ⌝ }
-    ensures { λ _. ⌜ now (edges .exit) ≡ corrected (putting side (now (points .entry)) count placement) (tileOf (now (table .entry)) (now (edges .entry))) .edges ⌝ }
-    ensures { λ _. ⌜ now (table .exit) ≡ corrected (putting side (now (points .entry)) count placement) (tileOf (now (table .entry)) (now (edges .entry))) .table ⌝ }
-    ensures { λ _. ⌜ HoldsOneMore (putting side (now (points .entry)) count placement) (tileOf (now (table .entry)) (now (edges .entry))) (tileOf (now (table .exit)) (now (edges .exit))) ⌝ }
-    ensures { λ _. ⌜ now (points .exit) ≡ now (points .entry) ⌝ }
-{
-    corrections::correct(side, Change::Put, points, count, placement, edges, table)
-}
-
-// Takes a contour out of a tile again: as `put`, with its values taken from the table and its count from the record. Whether the contour is in cannot be
-// told from a table: one that is not is taken out too, where the record counts enough edges.
-pub fn take(
-    side: u32,
-    points: &[i64],
-    count: u32,
-    placement: Placement,
-    edges: &mut u32,
-    table: &mut [i64],
-) -> u32
-    ensures { λ r. ⌜ r ≡ correctRefusal (taking side (now (points .entry)) count placement) (tileOf (now (table .entry)) (now (edges .entry))) ⌝ }
-    ensures { λ _. ⌜ now (edges .exit) ≡ corrected (taking side (now (points .entry)) count placement) (tileOf (now (table .entry)) (now (edges .entry))) .edges ⌝ }
-    ensures { λ _. ⌜ now (table .exit) ≡ corrected (taking side (now (points .entry)) count placement) (tileOf (now (table .entry)) (now (edges .entry))) .table ⌝ }
-    ensures { λ _. ⌜ HoldsOneLess (taking side (now (points .entry)) count placement) (tileOf (now (table .entry)) (now (edges .entry))) (tileOf (now (table .exit)) (now (edges .exit))) ⌝ }
-    ensures { λ _. ⌜ now (points .exit) ≡ now (points .entry) ⌝ }
-{
-    corrections::correct(side, Change::Take, points, count, placement, edges, table)
 }
 
 // Draws the figures of a level. The answer is 0, and the picture has them row by row, whatever it held before. Or it is the number of the first

@@ -4,7 +4,7 @@ use mathlib.Core.List.{List, [], _∷_, _++_}
 use borrow.Author.Needs.{needs}
 use Rattle.tile.specs.Questions.{Question, question8, question9}
 use Rattle.tile.specs.Inner.{levelQuestions}
-use Rattle.tile.proofs.Asking.{After, refused, passed}
+use Rattle.tile.specs.Laws.Asking.{After, refused, passed}
 use Rattle.tile.proofs.LevelFirst.{level-refused, level-passed, level-shallow}
 use Rattle.tile.proofs.draw_refusal.Statement.{statement}
 use Rattle.tile.proofs.draw_refusal.Tie as tie

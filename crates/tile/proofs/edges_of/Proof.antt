@@ -7,7 +7,7 @@ use lib.ListN.{length, getD, drop}
 use borrow.Author.Needs.{needs}
 use Rattle.integers.specs.Units.{mostEdges}
 use Rattle.accuracy.specs.Outline.{edgeCount}
-use Rattle.tile.proofs.CountsSum.{count-next, count-end, capped-within, capped-over}
+use Rattle.tile.specs.Laws.CountsSum.{count-next, count-end, capped-within, capped-over}
 use Rattle.tile.proofs.edges_of.Statement.{statement}
 use Rattle.tile.proofs.edges_of.Tie as tie
 

@@ -1,40 +1,35 @@
--- Question by question.
+-- The questions about the tile, and one more.
 use mathlib.Core.Path.{sym, _∙_}
-use mathlib.Core.List.{List}
+use mathlib.Core.List.{List, [], _∷_, _++_}
 use borrow.Author.Needs.{needs}
-use borrow.Author.Tests.{not-false}
-use Rattle.tile.specs.Questions.{Question}
-use Rattle.tile.specs.Inner.{levelQuestions}
-use Rattle.tile.specs.Laws.Sides.{side-le}
-use Rattle.tile.proofs.Asking.{After, none-asked, refused, passed}
+use Rattle.tile.specs.Questions.{Question, question7, tileQuestions}
+use Rattle.tile.specs.Laws.FirstNo.{firstNo-zero}
+use Rattle.tile.specs.Laws.Asking.{After, first-refused, first-passed, refused, passed}
 use Rattle.tile.proofs.level_refusal.Statement.{statement}
 use Rattle.tile.proofs.level_refusal.Tie as tie
 
-abbrev questions : tie.Start → List Question
-questions s = levelQuestions (s .args .side) (s .args .level) (s .args .table .now)
+abbrev first : tie.Start → List Question
+first s = tileQuestions (s .args .side) (s .args .table .now)
 
-after-1 : (c : tie.Else1) → After (questions (c .before .before)) 1
-after-1 c = passed (none-asked _) (c .before .is-side .ensures) (c .if1 .left)
-
-after-2 : (c : tie.Else2) → After (questions (c .before .before .before .before)) 2
-after-2 c = passed (after-1 (c .before .before)) (c .before .is-table .ensures) (c .if2 .left)
+abbrev rest : tie.Start → List Question
+rest s = question7 (s .args .side) (s .args .level) ∷ []
 
 returns : tie.Need-returns
-returns c = refused (none-asked (questions (c .before .before))) (c .before .is-side .ensures) (c .if1 .taken)
+returns c =
+    let s = c .before .before in
+    let e = c .before .tile-refusal .ensures in
+    e ∙ first-refused (first s) (rest s) (λ z. c .if1 .taken (e ∙ z))
 
-is-table-requires : tie.Need-is-table-requires
-is-table-requires c κs = side-le _ (sym (c .before .is-side .ensures) ∙ not-false _ (c .if1 .left))
+after-2 : (c : tie.Else1) → After (first (c .before .before) ++ rest (c .before .before)) 2
+after-2 c =
+    let s = c .before .before in
+    record { same = first-passed (first s) (rest s) (firstNo-zero (first s) tt .0 (sym (c .before .tile-refusal .ensures) ∙ c .if1 .left)) }
 
 returns-2 : tie.Need-returns-2
-returns-2 c = refused (after-1 (c .before .before)) (c .before .is-table .ensures) (c .if2 .taken)
+returns-2 c = refused (after-2 (c .before .before)) (c .before .is-level .ensures) (c .if2 .taken)
 
 returns-3 : tie.Need-returns-3
-returns-3 c = refused (after-2 (c .before .before)) (c .before .is-level .ensures) (c .if3 .taken)
-
-returns-4 : tie.Need-returns-4
-returns-4 c = sym (passed (after-2 (c .before .before)) (c .before .is-level .ensures) (c .if3 .left) .same)
+returns-3 c = sym (passed (after-2 (c .before .before)) (c .before .is-level .ensures) (c .if2 .left) .same)
 
 pub level-refusal-spec : {M : Type 1} → statement M
-level-refusal-spec =
-    tie.close
-    (tie.spec (λ c κs. search needs) returns is-table-requires returns-2 (λ c κs. search needs) returns-3 returns-4)
+level-refusal-spec = tie.close (tie.spec (λ c κs. search needs) returns (λ c κs. search needs) returns-2 returns-3)

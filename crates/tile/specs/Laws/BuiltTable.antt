@@ -2,7 +2,7 @@
 --
 -- Main results
 --   built-is                     what building leaves
---   table-length                 the table of a list of edges has side × side entries; `tableOf` is that of an outline's
+--   table-length                 the table of a list of edges, with whatever root, has side × side entries; `tableOf` is that of an outline's
 --   table-same                   it holds the coefficients of the edges' table
 --   table-within, table-in-range its entries are at most what the most edges add, and so in question 9's range
 use mathlib.Core.Path.{_≡_, sym, _∙_, ap}
@@ -19,9 +19,9 @@ use Rattle.haar.specs.Table.{stored, SameBelow}
 use Rattle.haar.specs.Plane.{dimensions}
 use Rattle.haar.specs.Drawable.{InRange}
 use Rattle.haar.specs.Laws.Entries.{entries-length, entries-stored, entries-within}
-use Rattle.accuracy.specs.OutlineTable.{outlineTable}
+use Rattle.accuracy.specs.OutlineTable.{tableFrom}
 use Rattle.tile.specs.Questions.{Yes, depthOf, question1}
-use Rattle.tile.specs.Outcomes.{ifDone, tableOf, edgesTable, buildRefusal, buildTable}
+use Rattle.tile.specs.Outcomes.{ifDone, tableOf, tableWith, buildRefusal, buildTable}
 use Rattle.tile.specs.Laws.Sides.{side-depth, side-cells}
 use Rattle.tile.specs.Laws.Accepted.{AcceptedEdges}
 
@@ -29,17 +29,19 @@ pub built-is : (side : ℕ) (points : List ℤ) (counts : List ℕ) (before : Li
     → buildTable side points counts before ≡ tableOf side points counts
 built-is side points counts before done = ap (λ n. ifDone n (tableOf side points counts) before) done
 
-module _ (side : ℕ) (es : List Edge) where
-  pub table-length : Yes (question1 side) → length (edgesTable side es) ≡ side * side
-  table-length y = entries-length dimensions (depthOf side) (outlineTable (depthOf side) es) ∙ sym (side-cells side y)
+module _ (side : ℕ) (root : ℤ) (es : List Edge) where
+  pub table-length : Yes (question1 side) → length (tableWith side root es) ≡ side * side
+  table-length y = entries-length dimensions (depthOf side) (tableFrom root (depthOf side) es) ∙ sym (side-cells side y)
 
-  pub table-same : SameBelow dimensions (depthOf side) (stored dimensions (edgesTable side es)) (outlineTable (depthOf side) es)
-  table-same = entries-stored dimensions (depthOf side) (outlineTable (depthOf side) es)
+  pub table-same : SameBelow dimensions (depthOf side) (stored dimensions (tableWith side root es)) (tableFrom root (depthOf side) es)
+  table-same = entries-stored dimensions (depthOf side) (tableFrom root (depthOf side) es)
 
-  -- few edges on a small tile: no entry passes 2^38
-  pub table-within : AcceptedEdges side es → (i : ℕ) → Within (pos builtEntryLimit) (getD (edgesTable side es) i (pos 0))
-  table-within a i =
-      entries-within dimensions (depthOf side) builtEntryLimit (outlineTable (depthOf side) es) (a .accurate .entries (side-depth side (a .is-side)) (a .few-edges)) i
+-- few edges on a small tile: no entry passes 2^38
+module _ {side : ℕ} {rootOf : List Edge → ℤ} {twiceLimit : ℕ → ℕ → ℕ} {es : List Edge} (a : AcceptedEdges side rootOf twiceLimit es) where
+  pub table-within : (i : ℕ) → Within (pos builtEntryLimit) (getD (tableWith side (rootOf es) es) i (pos 0))
+  table-within i =
+      entries-within dimensions (depthOf side) builtEntryLimit (tableFrom (rootOf es) (depthOf side) es)
+      (a .accurate .entries (side-depth side (a .is-side)) (a .few-edges)) i
 
-  pub table-in-range : AcceptedEdges side es → InRange (edgesTable side es)
-  table-in-range a = let larger : builtEntryLimit ≤ entryLimit = lit≤ tt in record { each = λ i. within-le (pos-≤ℤ larger) (table-within a i) }
+  pub table-in-range : InRange (tableWith side (rootOf es) es)
+  table-in-range = let larger : builtEntryLimit ≤ entryLimit = lit≤ tt in record { each = λ i. within-le (pos-≤ℤ larger) (table-within i) }

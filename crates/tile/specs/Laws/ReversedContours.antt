@@ -16,8 +16,7 @@ use Rattle.placement.specs.Placed.{acrossOf, downOf, placed}
 use Rattle.accuracy.specs.Outline.{Point, contoursOf, outlineEdges}
 use Rattle.accuracy.specs.Laws.Reversal.{EdgesReversed}
 use Rattle.accuracy.specs.Laws.EdgeEnds.{every-reversed}
-use Rattle.tile.specs.Corrections.{Contour}
-use Rattle.tile.specs.Holding.{coordinatesOf, coordinates, countsOf}
+use Rattle.tile.specs.Written.{Contour, coordinatesOf, coordinates, countsOf}
 use Rattle.tile.specs.Laws.Written.{contours-back, coordinates-asked}
 
 pub reverse-counts : (cs : List Contour) → countsOf (map reverse cs) ≡ countsOf cs

@@ -1,16 +1,14 @@
--- The outline of given contours, as building takes it: its contours are these, and building accepts it exactly where each of them is one that it accepts
--- and they have no more edges than the most.
+-- Contours written as an outline: they are read back as they were.
 --
 -- Main results
---   isContour side c             questions 4 and 6 of one contour
 --   contours-back                the contours of the outline are those that it was made of
 --   back-points, points-back     points and their coordinates undo each other
 --   coordinatesOf-length         there are two coordinates for each point
 --   coordinates-length           and two for each edge of the outline
 --   coordinates-back             the outline of contours that were read from an outline is that one
---   contours-edges                its edge count
---   coordinates-asked            a test of every coordinate is one of every contour
---   written-accepted             when building accepts it
+--   contours-edges               its edge count
+--   counts-asked,
+--   coordinates-asked            question 4, and a test of every coordinate, are asked of every contour
 use mathlib.Core.Path.{_≡_, refl, sym, _∙_, ap, ap₂, subst, subst⁻¹}
 use mathlib.Core.Logic.{_↔_}
 use mathlib.Core.Bool.{Bool, true, _&&_}
@@ -27,14 +25,8 @@ use Rattle.integers.specs.Tests.{every, between, and-true-means}
 use Rattle.integers.specs.Every.{every-append, every-both}
 use Rattle.accuracy.specs.Outline.{pointsOf, contoursOf, edgeCount}
 use Rattle.accuracy.specs.Laws.Coordinates.{taken-points}
-use Rattle.tile.specs.Questions.{Yes, question1, question2, question4, question6}
-use Rattle.tile.specs.Outcomes.{buildRefusal}
-use Rattle.tile.specs.Refusals.{building-refusals, question3-means, question5-means}
-use Rattle.tile.specs.Corrections.{Contour}
-use Rattle.tile.specs.Holding.{coordinatesOf, coordinates, countsOf}
-
-abbrev pub isContour : ℕ → Contour → Bool
-isContour side c = question4 (length c ∷ []) .answer && question6 side (coordinatesOf c) .answer
+use Rattle.tile.specs.Questions.{question4}
+use Rattle.tile.specs.Written.{Contour, coordinatesOf, coordinates, countsOf}
 
 -- ---- one contour
 pub back-points : (c : Contour) → pointsOf (coordinatesOf c) ≡ c
@@ -82,8 +74,9 @@ unfolding coordinates tally
 coordinates-length [] = refl
 coordinates-length (c ∷ cs) = length-append (coordinatesOf c) (coordinates cs) ∙ omega (arith, coordinatesOf-length c, coordinates-length cs)
 
--- ---- accepted
-counts-asked : (cs : List Contour) → question4 (countsOf cs) .answer ≡ every (λ c. question4 (length c ∷ []) .answer) cs
+-- ---- what is asked of them
+
+pub counts-asked : (cs : List Contour) → question4 (countsOf cs) .answer ≡ every (λ c. question4 (length c ∷ []) .answer) cs
 counts-asked [] = refl
 counts-asked (c ∷ cs) =
     every-append (λ n. leb fewestPoints n && leb n mostPoints) (length c ∷ []) (countsOf cs)
@@ -94,26 +87,3 @@ unfolding coordinates
 coordinates-asked test [] = refl
 coordinates-asked test (c ∷ cs) =
     every-append test (coordinatesOf c) (coordinates cs) ∙ ap (λ b. every test (coordinatesOf c) && b) (coordinates-asked test cs)
-
-contours-asked : (side : ℕ) (cs : List Contour) → every (isContour side) cs ≡ (question4 (countsOf cs) .answer && question6 side (coordinates cs) .answer)
-contours-asked side cs =
-    every-both (λ c. question4 (length c ∷ []) .answer) (λ c. question6 side (coordinatesOf c) .answer) cs
-    ∙ sym (ap₂ _&&_ (counts-asked cs) (coordinates-asked (between (pos 0) (pos (stepsPerPixel * side))) cs))
-
--- when building accepts it
-pub written-accepted : (side : ℕ) (cs : List Contour) (before : List ℤ) → (buildRefusal side (coordinates cs) (countsOf cs) before ≡ 0)
-    ↔ (Yes (question1 side) × Yes (question2 side before) × (every (isContour side) cs ≡ true) × (tally length cs ≤ mostEdges))
-written-accepted side cs before =
-    let all = building-refusals side (coordinates cs) (countsOf cs) before .accepted in
-    let few = question5-means (countsOf cs) in
-    let enough = question3-means (coordinates cs) (countsOf cs) .1 (coordinates-length cs) in
-    let both = and-true-means (question4 (countsOf cs) .answer) (question6 side (coordinates cs) .answer) in (
-      λ done. (let y = all .0 done in (
-        y .0,
-        y .1 .0,
-        contours-asked side cs ∙ both .1 (y .1 .1 .0, y .1 .1 .1 .1 .1 .0),
-        subst (λ n. n ≤ mostEdges) (contours-edges cs) (few .0 (y .1 .1 .1 .0)),
-      )),
-      λ h. (let right = both .0 (sym (contours-asked side cs) ∙ h .2) in
-          all .1 (h .0, (h .1, (right .0, (few .1 (subst⁻¹ (λ n. n ≤ mostEdges) (contours-edges cs) (h .3)), (enough, (right .1, tt))))))),
-    )

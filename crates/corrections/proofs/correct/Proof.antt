@@ -26,7 +26,7 @@ use Rattle.tile.specs.Corrections.{Call, Tile, callOf, tileOf, contourOf
 use Rattle.tile.specs.Laws.FirstNo.{firstNo-zero}
 use Rattle.tile.specs.Laws.IfDone.{if-done, if-refused}
 use Rattle.tile.specs.Laws.AskedContour.{sign-within, few-edges, contour-on}
-use Rattle.tile.proofs.Asking.{first-refused, first-passed}
+use Rattle.tile.specs.Laws.Asking.{first-refused, first-passed}
 use Rattle.tile.proofs.Correcting.{fits-contour, fits-again, opposite-fits, back-within}
 use Rattle.tile.proofs.corrections.correct.Statement.{statement}
 use Rattle.tile.proofs.corrections.correct.Tie as tie

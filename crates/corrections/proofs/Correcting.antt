@@ -24,7 +24,7 @@ use Rattle.tile.specs.declared.corrections.Change.the-variants.{Put, Tak
 use Rattle.tile.specs.Questions.{Yes, depthOf, question9}
 use Rattle.tile.specs.Corrections.{Tile, Call, contourOf, signOf, wouldLeave, contourQuestions}
 use Rattle.tile.specs.Laws.AskedContour.{sign-within, opposite, sign-opposite, contour-count, few-edges, contour-edges-on, contour-edge-count}
-use Rattle.tile.proofs.Room.{in-range-fits}
+use Rattle.tile.specs.Laws.Room.{in-range-fits}
 
 -- ---- room
 module _ (k : Call) (t : Tile) (yes : All Yes (contourQuestions k t)) (yes9 : Yes (question9 (t .table))) where
