@@ -8,35 +8,22 @@
 -- does any other such pair. Which contours were put in is said by a series of calls (`Series`).
 --
 -- Definitions
---   coordinatesOf, coordinates,
---   countsOf                     the outline of given contours, as building takes it
 --   emptyTile side               a table of zeros, and no edge
 --   builtAs number edges         what building answers
---   HoldsContours side cs t      the tile t, of that side, holds the contours cs
+--   HoldsContours site cs t      the tile t, at that site, holds the contours cs
 --   HoldsOneMore, HoldsOneLess   what is promised of putting in and of taking out
 use mathlib.Core.Path.{_≡_}
-use mathlib.Core.List.{List, [], _∷_, _++_, Perm, map}
+use mathlib.Core.List.{List, _∷_, Perm}
 use Prim.Native.Nat.{ℕ, _*_}
 use lib.ListN.{length, replicate}
 use lib.IntN.{ℤ, pos}
-use Rattle.accuracy.specs.Outline.{outlineEdges, signedArea}
-use Rattle.accuracy.specs.Accurate.{twiceMissLimit}
+use Rattle.accuracy.specs.Outline.{outlineEdges}
 use Rattle.tile.specs.declared.Built.{Built}
-use Rattle.tile.specs.Outcomes.{buildResult, buildTable}
 use Rattle.tile.specs.Faithful.{FaithfulTo}
-use Rattle.tile.specs.Corrections.{Tile, Call, Contour, contourOf, correctRefusal}
-
--- ---- the outline of contours, which `contoursOf` of `accuracy` reads back
-unfoldable pub coordinatesOf : Contour → List ℤ
-coordinatesOf [] = []
-coordinatesOf (p ∷ ps) = p .x ∷ p .y ∷ coordinatesOf ps
-
-unfoldable pub coordinates : List Contour → List ℤ
-coordinates [] = []
-coordinates (c ∷ cs) = coordinatesOf c ++ coordinates cs
-
-abbrev pub countsOf : List Contour → List ℕ
-countsOf cs = map length cs
+use Rattle.tile.specs.Written.{Contour, coordinates, countsOf}
+use Rattle.sheet.specs.declared.Site.{Site}
+use Rattle.sheet.specs.Sites.{tileSide, seenAt, rootAt, twiceLimitAt, siteResult, siteTable}
+use Rattle.corrections.specs.Corrections.{Tile, Call, contourOf, correctRefusal}
 
 -- ---- tiles
 abbrev pub emptyTile : ℕ → Tile
@@ -45,25 +32,25 @@ emptyTile side = record { table = replicate (side * side) (pos 0); edges = 0 }
 abbrev pub builtAs : ℕ → ℕ → Built
 builtAs number edges = record { number = number; edges = edges }
 
-pub record HoldsContours (side : ℕ) (cs : List Contour) (t : Tile) : Type 0 where
+pub record HoldsContours (site : Site) (cs : List Contour) (t : Tile) : Type 0 where
   -- "table and count are those of building what remains, in any order of the contours": building is not refused, reports the record's count ..
-  pub count-built : (order : List Contour) → Perm cs order → (before : List ℤ) → length before ≡ side * side
-      → buildResult side (coordinates order) (countsOf order) before ≡ builtAs 0 (t .edges)
+  pub count-built : (order : List Contour) → Perm cs order → (before : List ℤ) → length before ≡ tileSide site * tileSide site
+      → siteResult site (coordinates order) (countsOf order) before ≡ builtAs 0 (t .edges)
   -- .. and leaves the tile's table
-  pub table-built : (order : List Contour) → Perm cs order → (before : List ℤ) → length before ≡ side * side
-      → buildTable side (coordinates order) (countsOf order) before ≡ t .table
+  pub table-built : (order : List Contour) → Perm cs order → (before : List ℤ) → length before ≡ tileSide site * tileSide site
+      → siteTable site (coordinates order) (countsOf order) before ≡ t .table
   -- "So a corrected letter is as near to its ink as one drawn afresh": demand 3 of the tile's table and of the contours' edges, which the record counts
   pub faithful : (order : List Contour) → Perm cs order
-      → FaithfulTo side (outlineEdges order) (signedArea (outlineEdges order)) twiceMissLimit 0 (t .edges) (t .table)
+      → FaithfulTo (tileSide site) (seenAt site (outlineEdges order)) (rootAt site (outlineEdges order)) (twiceLimitAt site) 0 (t .edges) (t .table)
 
 -- ---- what is promised of a call: `before` and `after` are the tile as it was and as it is then
 -- A tile that held contours holds one more after putting in.
 abbrev pub HoldsOneMore : Call → Tile → Tile → Type 0
 HoldsOneMore k before after =
-    (cs : List Contour) → HoldsContours (k .side) cs before → correctRefusal k before ≡ 0 → HoldsContours (k .side) (contourOf k ∷ cs) after
+    (cs : List Contour) → HoldsContours (k .site) cs before → correctRefusal k before ≡ 0 → HoldsContours (k .site) (contourOf k ∷ cs) after
 
 -- One that held the contour and others, in whatever order, holds these others after taking it out. The contour is known by its points as placed: it does
 -- not matter under which placement it was put in.
 abbrev pub HoldsOneLess : Call → Tile → Tile → Type 0
 HoldsOneLess k before after =
-    (others : List Contour) → HoldsContours (k .side) (contourOf k ∷ others) before → correctRefusal k before ≡ 0 → HoldsContours (k .side) others after
+    (others : List Contour) → HoldsContours (k .site) (contourOf k ∷ others) before → correctRefusal k before ≡ 0 → HoldsContours (k .site) others after

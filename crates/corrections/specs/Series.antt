@@ -10,15 +10,20 @@
 --   run calls ks t               the tile after the calls ks
 --   Lawful calls t cs ks rest    the calls ks from the tile t on, where cs are the contours that are in before them, and rest those after them: each that
 --                                is taken out is in by then
---   corrections                  the calls `put` and `take`, each with a side, points, a count and a placement of its own
---   Series                       a series of these
+--   corrections                  the calls `put`, `take`, `put_on_sheet` and `take_on_sheet`, each with a site, points, a count and a placement of its own
+--   OneSite site k               a call that belongs to a series on a tile at that site
+--   Series site                  a series of these
 use mathlib.Core.Path.{_≡_}
 use mathlib.Core.Logic.{_≢_}
 use mathlib.Core.List.{List, [], _∷_, Perm}
 use Prim.Native.Nat.{ℕ}
-use Rattle.tile.specs.declared.corrections.Change.{Change}
-use Rattle.tile.specs.declared.corrections.Change.the-variants.{Put, Take}
-use Rattle.tile.specs.Corrections.{Tile, Call, Contour, contourOf, correctRefusal, corrected}
+use Rattle.corrections.specs.declared.Change.{Change}
+use Rattle.corrections.specs.declared.Change.the-variants.{Put, Take}
+use Rattle.integers.specs.ListSum.{All}
+use Rattle.tile.specs.Written.{Contour}
+use Rattle.sheet.specs.declared.Site.{Site}
+use Rattle.sheet.specs.declared.Site.the-variants.{Alone, OnSheet}
+use Rattle.corrections.specs.Corrections.{Tile, Call, contourOf, correctRefusal, corrected}
 
 pub record Calls (K C : Type 0) : Type 0 where
   pub change : K → Change
@@ -44,5 +49,15 @@ pub data Lawful {K C : Type 0} (calls : Calls K C) : Tile → List C → List K 
 abbrev pub corrections : Calls Call Contour
 corrections = record { change = λ k. k .change; contour = contourOf; number = correctRefusal; after = corrected }
 
-abbrev pub Series : Tile → List Contour → List Call → List Contour → Type 0
-Series = Lawful corrections
+abbrev pub IsAlone : Site → Type 0
+IsAlone (Alone side) = Unit {0}
+IsAlone (OnSheet place) = ⊥
+
+-- "A tile being corrected keeps one sheet side and one place through the whole of P3's series." For a tile alone any side may be given: another than the tile's
+-- is refused, since the table's length tells.
+abbrev pub OneSite : Site → Call → Type 0
+OneSite (Alone side) k = IsAlone (k .site)
+OneSite (OnSheet place) k = k .site ≡ OnSheet place
+
+abbrev pub Series : Site → Tile → List Contour → List Call → List Contour → Type 0
+Series site t cs ks rest = Lawful corrections t cs ks rest × All (OneSite site) ks

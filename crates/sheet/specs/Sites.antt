@@ -24,7 +24,7 @@ use Rattle.accuracy.specs.Sheet.{corner}
 use Rattle.rasterize.specs.declared.View.{View}
 use Rattle.rasterize.specs.declared.View.the-variants.{Alone as AloneView, From}
 use Rattle.tile.specs.declared.Built.{Built}
-use Rattle.tile.specs.Questions.{Question, Yes, depthOf, question1, tileQuestions, outlineQuestions}
+use Rattle.tile.specs.Questions.{Question, Yes, depthOf, question1, tableQuestions, outlineQuestions}
 use Rattle.tile.specs.Outcomes.{edgesTable, buildResult, buildTable}
 use Rattle.sheet.specs.declared.Site.{Site}
 use Rattle.sheet.specs.declared.Site.the-variants.{Alone, OnSheet}
@@ -45,7 +45,7 @@ SiteYes (Alone side) = Yes (question1 side)
 SiteYes (OnSheet place) = Yes (question14 (place .sheet) (place .side)) × Yes (question15 place)
 
 abbrev pub siteQuestions : Site → List ℤ → List Question
-siteQuestions (Alone side) table = tileQuestions side table
+siteQuestions (Alone side) table = tableQuestions side table
 siteQuestions (OnSheet place) table = placeQuestions place table
 
 abbrev pub siteOutlineQuestions : Site → List ℤ → List ℕ → Placement → ℕ → List ℤ → List Question

@@ -23,7 +23,7 @@ use Rattle.placement.specs.Placed.{placed}
 use Rattle.placement.specs.Laws.PlacedPoints.{placed-none, placed-length}
 use Rattle.accuracy.specs.Outline.{edgeCount}
 use Rattle.tile.specs.declared.Built.{Built}
-use Rattle.tile.specs.Questions.{Yes, firstNo, question1, question2, question3, question4, question5, question6, question12, tileQuestions, outlineQuestions}
+use Rattle.tile.specs.Questions.{Yes, firstNo, question1, question2, question3, question4, question5, question6, question12, tableQuestions, outlineQuestions}
 use Rattle.tile.specs.Outcomes.{ifDone, tableOf, buildRefusal, buildResult, buildTable, placedRefusal, placedResult, placedTable}
 use Rattle.tile.specs.Faithful.{FaithfulPlaced}
 use Rattle.tile.specs.Theorem.{outline-faithful}
@@ -45,7 +45,7 @@ module _ (side : ℕ) (points : List ℤ) (counts : List ℕ) (table : List ℤ)
       ∷ record { number = 12; answer = movable } ∷ question6 side (placed placement points) ∷ []) in
       ap₂ number same asked
 
-  pub placed-none-in : (placement : Placement) → firstNo (tileQuestions side table ++ outlineQuestions side points counts placement 0) ≡ placedRefusal side points counts placement table
+  pub placed-none-in : (placement : Placement) → firstNo (tableQuestions side table ++ outlineQuestions side points counts placement 0) ≡ placedRefusal side points counts placement table
   placed-none-in placement =
       let same : 0 + edgeCount counts ≡ edgeCount counts = omega arith in
       let number : ℕ → ℕ = λ edges.

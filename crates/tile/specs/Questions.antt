@@ -11,7 +11,7 @@
 --   buildingQuestions, drawingQuestions,
 --   cellQuestions                          what building, pictures and greys, and one cell ask
 --   placedQuestions                        what building with a placement asks
---   tileQuestions, outlineQuestions        its two parts: about the tile, and about the outline, beside edges that are in already
+--   tableQuestions, outlineQuestions        its two parts: about the tile, and about the outline, beside edges that are in already
 use mathlib.Core.Path.{_≡_}
 use mathlib.Core.Bool.{Bool, true, false, _&&_, cond}
 use mathlib.Core.List.{List, [], _∷_}
@@ -123,8 +123,8 @@ placedQuestions side points counts placement table =
 
 -- ---- in two parts, of which the calls of 02 are made too: about the tile, and about an outline. There question 6 reads a side of its own, `reach`, and so many
 -- edges are in the table already.
-abbrev pub tileQuestions : ℕ → List ℤ → List Question
-tileQuestions side table = question1 side ∷ question2 side table ∷ []
+abbrev pub tableQuestions : ℕ → List ℤ → List Question
+tableQuestions side table = question1 side ∷ question2 side table ∷ []
 
 abbrev pub outlineQuestions : ℕ → List ℤ → List ℕ → Placement → ℕ → List Question
 outlineQuestions reach points counts placement already =

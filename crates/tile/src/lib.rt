@@ -11,7 +11,7 @@ ghost use lib.Dec.{leb};
 ghost use mathlib.Core.Bool.{_&&_};
 ghost use Rattle.integers.specs.Units.{greatestSide, greatestDepth, fewestPoints, mostPoints};
 ghost use Rattle.tile.specs.Questions.{depthOf, firstNo, question1, question2, question4, question7, question8, question9, question10};
-ghost use Rattle.tile.specs.Questions.{tileQuestions, outlineQuestions};
+ghost use Rattle.tile.specs.Questions.{tableQuestions, outlineQuestions};
 ghost use Rattle.tile.specs.Outcomes.{buildResult, buildTable, placedResult, placedTable, drawRefusal, figuresPicture, greysPicture, cellRefusal, cellResult};
 ghost use Rattle.tile.specs.Faithful.{Faithful, FaithfulPlaced};
 ghost use Rattle.tile.specs.Inner.{cappedEdges, levelQuestions};
@@ -186,7 +186,7 @@ fn is_cell(level: u32, cx: u32, cy: u32) -> bool
 
 // The questions about a tile alone: the first "no", or 0.
 pub fn tile_refusal(side: u32, table: &[i64]) -> u32
-    ensures { λ r. ⌜ r ≡ firstNo (tileQuestions side (now (table .entry))) ⌝ }
+    ensures { λ r. ⌜ r ≡ firstNo (tableQuestions side (now (table .entry))) ⌝ }
 {
     if !is_side(side) {
         return NO_SIDE;

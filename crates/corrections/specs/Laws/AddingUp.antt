@@ -16,7 +16,7 @@ use Rattle.integers.specs.Ring.{read, ring}
 use Rattle.integers.specs.ListSum.{total, tally, total-perm, tally-perm}
 use Rattle.rasterize.specs.Added.{added}
 use Rattle.rasterize.specs.Laws.Adding.{added-added, added-same, added-unique}
-use Rattle.tile.specs.Corrections.{Tile, tileOf}
+use Rattle.corrections.specs.Corrections.{Tile, tileOf}
 
 pub record AddsUp {C : Type 0} (cells : ℕ) (part : C → ℕ → ℤ) (size : C → ℕ) (cs : List C) (t : Tile) : Type 0 where
   pub table-is : t .table ≡ added (replicate cells (pos 0)) (λ i. total (λ c. part c i) cs)

@@ -7,7 +7,7 @@
 --   contour-coordinates          its coordinates are those of the call, as placed
 --   few-edges                    its edges are no more than the most, with those that question 5 counts beside them
 --   contour-accepted             it is a contour that building accepts
---   contour-on, contour-edges-on its points and its edges are on the tile
+--   contour-in-view              its edges are in the tile's view
 --   contour-edge-count           its edges are as many as the count
 --   part-within                  what it adds to an entry, or takes from it, is at most what the most edges add
 use mathlib.Core.Path.{_≡_, refl, _∙_, ap}
@@ -16,31 +16,34 @@ use mathlib.Core.List.{List, [], _∷_}
 use Prim.Native.Nat.{ℕ, _+_, _*_, _/_, _≤_}
 use native.Mathlib.Omega.{arith}
 use native.Mathlib.Nat.{mul-le-mul-right}
-use lib.ListN.{length}
+use lib.ListN.{length, getD}
 use lib.IntN.{ℤ, pos, _-ℤ_, _*ℤ_}
 use lib.Signed.{leZ-yes}
 use Rattle.integers.specs.Units.{mostEdges, builtEntryLimit, detailLimit}
 use Rattle.integers.specs.Order.{pos-≤ℤ}
-use Rattle.integers.specs.Within.{Within, within-le}
+use Rattle.integers.specs.Within.{Within, within-is, within-le}
 use Rattle.integers.specs.ListSum.{All, tally}
 use Rattle.integers.specs.Tests.{and-true-means, leb-means}
 use Rattle.placement.specs.Placed.{placed}
 use Rattle.placement.specs.Laws.PlacedPoints.{placed-length}
 use Rattle.accuracy.specs.Outline.{edgeCount, contourEdges}
-use Rattle.accuracy.specs.Tile.{OnTile, EdgeOnTile}
 use Rattle.accuracy.specs.Laws.Contours.{contourEdges-length, contour-on-tile}
 use Rattle.accuracy.specs.Laws.Coordinates.{pointsOf-length, points-on}
+use Rattle.rasterize.specs.Views.{InView}
 use Rattle.rasterize.specs.Laws.Spare.{signed-within}
 use Rattle.rasterize.specs.Laws.Sums.{outline-entry-within}
-use Rattle.tile.specs.declared.corrections.Change.{Change}
-use Rattle.tile.specs.declared.corrections.Change.the-variants.{Put, Take}
 use Rattle.tile.specs.Questions.{Yes, depthOf, question3, question4, question6}
 use Rattle.tile.specs.Refusals.{question3-means}
-use Rattle.tile.specs.Corrections.{Tile, Call, contourOf, part, signOf, alreadyIn, contourQuestions}
-use Rattle.tile.specs.Holding.{coordinatesOf}
-use Rattle.tile.specs.Laws.Sides.{side-depth}
+use Rattle.tile.specs.Written.{coordinatesOf}
 use Rattle.tile.specs.Laws.Accepted.{on-side}
-use Rattle.tile.specs.Laws.Written.{isContour, points-back}
+use Rattle.tile.specs.Laws.Written.{points-back}
+use Rattle.sheet.specs.Sites.{tileSide, reach, viewAt}
+use Rattle.sheet.specs.Laws.SiteEdges.{reach-power, site-in-view, site-entries}
+use Rattle.corrections.specs.declared.Change.{Change}
+use Rattle.corrections.specs.declared.Change.the-variants.{Put, Take}
+use Rattle.corrections.specs.Corrections.{Tile, Call, contourOf, part, signOf, alreadyIn}
+use Rattle.corrections.specs.Laws.Answered.{AskedYes}
+use Rattle.corrections.specs.Laws.Accepted.{isContour}
 
 pub sign-within : (x : Change) → Within (pos 1) (signOf x)
 sign-within Put = record { low = leZ-yes tt; high = leZ-yes tt }
@@ -70,36 +73,34 @@ module _ (k : Call) (yes3 : Yes (question3 (k .points) (k .count ∷ []))) where
   contour-coordinates = points-back (k .count) drawn even
 
 -- ---- by all of them
-module _ (k : Call) (t : Tile) (yes : All Yes (contourQuestions k t)) where
-  abbrev side : ℕ
-  side = k .side
-
-  abbrev yes3 : Yes (question3 (k .points) (k .count ∷ []))
-  yes3 = yes .1 .1 .1 .1 .0
-
-  abbrev yes6 : Yes (question6 side (placed (k .placement) (k .points)))
-  yes6 = yes .1 .1 .1 .1 .1 .1 .0
+module _ (k : Call) (t : Tile) (yes : AskedYes k t) where
+  abbrev depth : ℕ
+  depth = depthOf (tileSide (k .site))
 
   pub few-edges : alreadyIn (k .change) (t .edges) + k .count ≤ mostEdges
   unfolding tally
-  few-edges = omega (arith, leb-means (alreadyIn (k .change) (t .edges) + edgeCount (k .count ∷ [])) mostEdges .0 (yes .1 .1 .1 .0))
+  few-edges = omega (arith, leb-means (alreadyIn (k .change) (t .edges) + edgeCount (k .count ∷ [])) mostEdges .0 (yes .yes5))
 
-  pub contour-accepted : isContour side (contourOf k) ≡ true
+  pub contour-accepted : isContour (reach (k .site)) (contourOf k) ≡ true
   contour-accepted =
-      and-true-means (question4 (length (contourOf k) ∷ []) .answer) (question6 side (coordinatesOf (contourOf k)) .answer) .1
-      (ap (λ n. question4 (n ∷ []) .answer) (contour-count k yes3) ∙ yes .1 .1 .0, ap (λ l. question6 side l .answer) (contour-coordinates k yes3) ∙ yes6)
+      and-true-means (question4 (length (contourOf k) ∷ []) .answer) (question6 (reach (k .site)) (coordinatesOf (contourOf k)) .answer) .1 (
+        ap (λ n. question4 (n ∷ []) .answer) (contour-count k (yes .yes3)) ∙ yes .yes4,
+        ap (λ l. question6 (reach (k .site)) l .answer) (contour-coordinates k (yes .yes3)) ∙ yes .yes6,
+      )
 
-  pub contour-on : All (OnTile (depthOf side)) (contourOf k)
-  contour-on = points-on (depthOf side) (placed (k .placement) (k .points)) (on-side side (placed (k .placement) (k .points)) (yes .0) yes6)
-
-  pub contour-edges-on : All (EdgeOnTile (depthOf side)) (contourEdges (contourOf k))
-  contour-edges-on = contour-on-tile (depthOf side) (contourOf k) contour-on
+  pub contour-in-view : All (InView (viewAt (k .site)) depth) (contourEdges (contourOf k))
+  contour-in-view =
+      let wide = depthOf (reach (k .site)) in
+      let points = placed (k .placement) (k .points) in
+      site-in-view (k .site) (yes .site) (contourEdges (contourOf k))
+      (contour-on-tile wide (contourOf k) (points-on wide points (on-side (reach (k .site)) points (reach-power (k .site) (yes .site)) (yes .yes6))))
 
   pub contour-edge-count : length (contourEdges (contourOf k)) ≡ k .count
-  contour-edge-count = contourEdges-length (contourOf k) ∙ contour-count k yes3
+  contour-edge-count = contourEdges-length (contourOf k) ∙ contour-count k (yes .yes3)
 
-  pub part-within : (i : ℕ) → Within (pos builtEntryLimit) (signOf (k .change) *ℤ part side (contourOf k) i)
+  pub part-within : (i : ℕ) → Within (pos builtEntryLimit) (signOf (k .change) *ℤ part (k .site) (contourOf k) i)
   part-within i =
       let few : length (contourEdges (contourOf k)) ≤ mostEdges = omega (arith, contour-edge-count, few-edges) in
       signed-within (sign-within (k .change))
-      (within-le (pos-≤ℤ (mul-le-mul-right detailLimit few)) (outline-entry-within (contourEdges (contourOf k)) (side-depth side (yes .0)) contour-edges-on i))
+      (within-is refl (ap (λ l. getD l i (pos 0)) (site-entries (k .site) (contourEdges (contourOf k))))
+      (within-le (pos-≤ℤ (mul-le-mul-right detailLimit few)) (outline-entry-within (viewAt (k .site)) depth (contourEdges (contourOf k)) contour-in-view i)))

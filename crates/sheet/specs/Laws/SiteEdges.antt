@@ -6,6 +6,7 @@
 --   site-in-view                 edges within reach are in the tile's view
 --   site-entries                 their table is the sum of what each adds
 --   site-accepted                and can be drawn as promised
+--   entries-with, seen-length    it is the table with the root that the claim speaks of; and there are as many edges
 use mathlib.Core.Path.{_≡_, refl, sym, _∙_, ap, ap₂, fun-ext}
 use mathlib.Core.List.{List, [], _∷_, map}
 use Prim.Native.Nat.{ℕ, _+_, _*_, _-_, _/_, _^_, _<_, _≤_}
@@ -34,6 +35,7 @@ use Rattle.accuracy.specs.Laws.SheetTiles.{from-tile-closed, from-tile-length, 
 use Rattle.rasterize.specs.Views.{viewTable, InView}
 use Rattle.rasterize.specs.Laws.EdgesInView.{in-view-alone, in-view-from}
 use Rattle.tile.specs.Questions.{Yes, depthOf, question1}
+use Rattle.tile.specs.Outcomes.{tableWith}
 use Rattle.tile.specs.Laws.Sides.{side-power, side-depth}
 use Rattle.tile.specs.Laws.Accepted.{side-width, AcceptedEdges}
 use Rattle.tile.specs.Laws.DrawnArea.{miss-limit-cells}
@@ -162,3 +164,12 @@ site-accepted (OnSheet place) y es o few =
           (all-map (λ e h. from-tile-on (wide place y) (depth place y) (place .column) (place .row) e h) es (o .on-tile))) .accurate;
       limited = λ level edges. le-refl (4 ^ level * edges);
     }
+
+-- the same table, by the root that the claim speaks of
+pub entries-with : (site : Site) (es : List Edge) → tableWith (tileSide site) (rootAt site es) (seenAt site es) ≡ entriesAt site es
+entries-with (Alone side) es = refl
+entries-with (OnSheet place) es = refl
+
+pub seen-length : (site : Site) (es : List Edge) → length (seenAt site es) ≡ length es
+seen-length (Alone side) es = refl
+seen-length (OnSheet place) es = from-tile-length (depthOf (place .side)) (place .column) (place .row) es

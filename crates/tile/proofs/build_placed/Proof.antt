@@ -18,7 +18,7 @@ use Rattle.rasterize.specs.declared.View.the-variants.{Alone}
 use Rattle.rasterize.specs.Views.{InView}
 use Rattle.rasterize.specs.Laws.EdgesInView.{in-view-alone}
 use Rattle.tile.specs.declared.Built.{Built}
-use Rattle.tile.specs.Questions.{Question, firstNo, depthOf, tileQuestions, outlineQuestions}
+use Rattle.tile.specs.Questions.{Question, firstNo, depthOf, tableQuestions, outlineQuestions}
 use Rattle.tile.specs.Outcomes.{edgesOf, placedRefusal, placedTable}
 use Rattle.tile.specs.Refusals.{placed-refusals}
 use Rattle.tile.specs.Faithful.{FaithfulPlaced}
@@ -40,7 +40,7 @@ answer number edges = record { number = number; edges = edges }
 module _ (s : tie.Start) where
   -- the questions in the order in which they are asked: about the tile, and about the outline, no edge being in already
   abbrev first : List Question
-  first = tileQuestions (s .args .side) (s .args .table .now)
+  first = tableQuestions (s .args .side) (s .args .table .now)
 
   abbrev rest : List Question
   rest = outlineQuestions (s .args .side) (s .args .points .now) (s .args .counts .now) (s .args .placement) 0

@@ -2,14 +2,14 @@
 use mathlib.Core.Path.{sym, _∙_}
 use mathlib.Core.List.{List, [], _∷_, _++_}
 use borrow.Author.Needs.{needs}
-use Rattle.tile.specs.Questions.{Question, question7, tileQuestions}
+use Rattle.tile.specs.Questions.{Question, question7, tableQuestions}
 use Rattle.tile.specs.Laws.FirstNo.{firstNo-zero}
 use Rattle.tile.specs.Laws.Asking.{After, first-refused, first-passed, refused, passed}
 use Rattle.tile.proofs.level_refusal.Statement.{statement}
 use Rattle.tile.proofs.level_refusal.Tie as tie
 
 abbrev first : tie.Start → List Question
-first s = tileQuestions (s .args .side) (s .args .table .now)
+first s = tableQuestions (s .args .side) (s .args .table .now)
 
 abbrev rest : tie.Start → List Question
 rest s = question7 (s .args .side) (s .args .level) ∷ []

@@ -3,14 +3,14 @@ use mathlib.Core.Path.{sym, _∙_}
 use mathlib.Core.List.{List}
 use borrow.Author.Needs.{needs}
 use borrow.Author.Tests.{not-false}
-use Rattle.tile.specs.Questions.{Question, tileQuestions}
+use Rattle.tile.specs.Questions.{Question, tableQuestions}
 use Rattle.tile.specs.Laws.Sides.{side-le}
 use Rattle.tile.specs.Laws.Asking.{After, none-asked, refused, passed}
 use Rattle.tile.proofs.tile_refusal.Statement.{statement}
 use Rattle.tile.proofs.tile_refusal.Tie as tie
 
 abbrev questions : tie.Start → List Question
-questions s = tileQuestions (s .args .side) (s .args .table .now)
+questions s = tableQuestions (s .args .side) (s .args .table .now)
 
 after-1 : (c : tie.Else1) → After (questions (c .before .before)) 1
 after-1 c = passed (none-asked _) (c .before .is-side .ensures) (c .if1 .left)
