@@ -32,7 +32,7 @@ ghost use Rattle.integers.specs.Clamp.{clamp};
 ghost use Rattle.edge.specs.Walk.{extent as extentOf, sign as signOf, dx, dy, ax as axOf, ay as ayOf};
 ghost use Rattle.edge.specs.Inside.{Inside};
 ghost use Rattle.edge.specs.Rounded.{details as detailsOf, roundedArea};
-ghost use Rattle.edge.specs.Cuts.{strip as stripSteps, stripOf, meet as meetOf, span as spanOf, toMiddle, cutsAt, rows, sideCuts};
+ghost use Rattle.edge.specs.Cuts.{strip as stripSteps, stripOf, meet as meetOf, span as spanOf, toMiddle, cutsAt, rows};
 ghost use Rattle.edge.specs.Room.{coordinateLimit, extentLimit, crossingLimit, Measured, Even, Room};
 ghost use Rattle.edge.specs.Code.{AxisRoom, SamplesWithin, SameHalf, SameQuarter, SamplesClosed, beyondAt, nearAt, pieceSum, numeratorsAt, roundedBy, heldAt, areaAt};
 ghost use Rattle.edge.specs.WalkOf.{IsWalk, Decides};

@@ -4,19 +4,21 @@
 --   clamp-low, clamp-high                           it lies between its bounds
 --   clamp-below, clamp-inside, clamp-above          its three cases; `clamped` as one view, for the bounds 0 and m
 --   clamp-mono, clamp-moves                         it rises with v, and moves by no more than v does
---   clamp-halves                                    of a whole width, it is that of the left half and that of the right half, added
+--   clamp-parts, clamp-halves, clamp-tiles          of a width in two parts, two halves or m equal parts: what is held to each of them, added up
 --   clamp-scale                                     a factor that is not negative comes out
 --   clamp-step-inside, clamp-step-outside           as v moves up by one, it moves by one from 0 up to m, and elsewhere not at all
 use mathlib.Core.Path.{_≡_, refl, sym, _∙_, ap}
 use mathlib.Core.List.{List, [], _∷_}
 use mathlib.Core.Logic.{_⊎_, inl, inr}
+use Prim.Native.Nat.{ℕ, zero, suc}
 use lib.IntN.{ℤ, pos, _+ℤ_, _-ℤ_, _*ℤ_}
 use lib.Signed.{_≤ℤ_, _<ℤ_}
 use Rattle.integers.specs.Ring.{read, ring}
-use Rattle.integers.specs.Order.{add-one-≤ℤ, ≤ℤ-or-<ℤ, ≤ℤ-of-<ℤ, ≤ℤ-trans, ≤ℤ-mul, ≤ℤ-mul-nonneg}
+use Rattle.integers.specs.Order.{nonneg, add-one-≤ℤ, ≤ℤ-or-<ℤ, ≤ℤ-of-<ℤ, ≤ℤ-trans, ≤ℤ-mul, ≤ℤ-mul-nonneg}
 use Rattle.integers.specs.Linear.{le, lt, eq, _&_, linear, lin≤, lin≡}
 use Rattle.integers.specs.Within.{Within, bounds, within-is}
 use Rattle.integers.specs.MinMax.{min, max, min-moves, max-moves, max-≥ˡ, max-≥ʳ, max-least, max-eqˡ, max-eqʳ, min-≤ʳ, min-≤ˡ, min-eqˡ, min-eqʳ, min-greatest}
+use Rattle.integers.specs.RangeSum.{Σ<, Σ-zero, Σ-suc}
 
 unfoldable pub clamp : ℤ → ℤ → ℤ → ℤ
 clamp v lo hi = max lo (min v hi)
@@ -74,35 +76,53 @@ clamp-moves {b} lo hi v s w =
       high = lin≤ (b ∷ z ∷ []) (le b≥0) (search linear depth 40) tt;
     }
 
--- ---- halves
+-- ---- parts of a width
 -- short of its upper bound, a number is held by the lower one alone
 clamp-eq-max : {v hi : ℤ} (lo : ℤ) → v ≤ℤ hi → clamp v lo hi ≡ max lo v
 unfolding clamp
 clamp-eq-max lo h = ap (max lo) (min-eqˡ h)
 
-pub clamp-halves : {m h : ℤ} → m ≡ h +ℤ h → pos 0 ≤ℤ h → (v : ℤ) → clamp v (pos 0) m ≡ clamp v (pos 0) h +ℤ clamp (v -ℤ h) (pos 0) h
-clamp-halves {m} {h} w k v = go (≤ℤ-or-<ℤ v h) (≤ℤ-or-<ℤ v m)
+-- two parts, p and q
+pub clamp-parts : {p q : ℤ} → pos 0 ≤ℤ p → pos 0 ≤ℤ q → (v : ℤ) → clamp v (pos 0) (p +ℤ q) ≡ clamp v (pos 0) p +ℤ clamp (v -ℤ p) (pos 0) q
+clamp-parts {p} {q} h k v = go (≤ℤ-or-<ℤ v p) (≤ℤ-or-<ℤ v (p +ℤ q))
   where
     ρ : List ℤ
-    ρ = clamp v (pos 0) m ∷ clamp v (pos 0) h ∷ clamp (v -ℤ h) (pos 0) h ∷ v ∷ h ∷ m ∷ max (pos 0) v ∷ []
+    ρ = clamp v (pos 0) (p +ℤ q) ∷ clamp v (pos 0) p ∷ clamp (v -ℤ p) (pos 0) q ∷ v ∷ p ∷ q ∷ max (pos 0) v ∷ []
 
-    go : (v ≤ℤ h) ⊎ (h <ℤ v) → (v ≤ℤ m) ⊎ (m <ℤ v) → clamp v (pos 0) m ≡ clamp v (pos 0) h +ℤ clamp (v -ℤ h) (pos 0) h
+    go : (v ≤ℤ p) ⊎ (p <ℤ v) → (v ≤ℤ (p +ℤ q)) ⊎ ((p +ℤ q) <ℤ v) → clamp v (pos 0) (p +ℤ q) ≡ clamp v (pos 0) p +ℤ clamp (v -ℤ p) (pos 0) q
     go (inl a) b =
-        let e : clamp v (pos 0) m ≡ max (pos 0) v = clamp-eq-max (pos 0) (lin≤ (v ∷ h ∷ m ∷ []) (le a & le k & eq w) (search linear depth 40) tt) in
-        let f : clamp v (pos 0) h ≡ max (pos 0) v = clamp-eq-max (pos 0) a in
-        let g : clamp (v -ℤ h) (pos 0) h ≡ pos 0 = clamp-below h (lin≤ (v ∷ h ∷ []) (le a) (search linear depth 40) tt) in
+        let e : clamp v (pos 0) (p +ℤ q) ≡ max (pos 0) v = clamp-eq-max (pos 0) (lin≤ (v ∷ p ∷ q ∷ []) (le a & le k) (search linear depth 40) tt) in
+        let f : clamp v (pos 0) p ≡ max (pos 0) v = clamp-eq-max (pos 0) a in
+        let g : clamp (v -ℤ p) (pos 0) q ≡ pos 0 = clamp-below q (lin≤ (v ∷ p ∷ []) (le a) (search linear depth 40) tt) in
         lin≡ ρ (eq e & eq f & eq g) (search linear depth 40) (tt, tt)
     go (inr a) (inl b) =
-        let e : clamp v (pos 0) m ≡ v = clamp-inside (≤ℤ-trans k (≤ℤ-of-<ℤ a)) b in
-        let f : clamp v (pos 0) h ≡ h = clamp-above k (≤ℤ-of-<ℤ a) in
-        let g : clamp (v -ℤ h) (pos 0) h ≡ v -ℤ h =
-        clamp-inside (lin≤ (v ∷ h ∷ []) (lt a) (search linear depth 40) tt) (lin≤ (v ∷ h ∷ m ∷ []) (le b & eq w) (search linear depth 40) tt) in
+        let e : clamp v (pos 0) (p +ℤ q) ≡ v = clamp-inside (≤ℤ-trans h (≤ℤ-of-<ℤ a)) b in
+        let f : clamp v (pos 0) p ≡ p = clamp-above h (≤ℤ-of-<ℤ a) in
+        let g : clamp (v -ℤ p) (pos 0) q ≡ v -ℤ p =
+        clamp-inside (lin≤ (v ∷ p ∷ []) (lt a) (search linear depth 40) tt) (lin≤ (v ∷ p ∷ q ∷ []) (le b) (search linear depth 40) tt) in
         lin≡ ρ (eq e & eq f & eq g) (search linear depth 40) (tt, tt)
     go (inr a) (inr b) =
-        let e : clamp v (pos 0) m ≡ m = clamp-above (lin≤ (h ∷ m ∷ []) (le k & eq w) (search linear depth 40) tt) (≤ℤ-of-<ℤ b) in
-        let f : clamp v (pos 0) h ≡ h = clamp-above k (≤ℤ-of-<ℤ a) in
-        let g : clamp (v -ℤ h) (pos 0) h ≡ h = clamp-above k (lin≤ (v ∷ h ∷ m ∷ []) (lt b & eq w) (search linear depth 40) tt) in
-        lin≡ ρ (eq e & eq f & eq g & eq w) (search linear depth 40) (tt, tt)
+        let e : clamp v (pos 0) (p +ℤ q) ≡ p +ℤ q = clamp-above (lin≤ (p ∷ q ∷ []) (le h & le k) (search linear depth 40) tt) (≤ℤ-of-<ℤ b) in
+        let f : clamp v (pos 0) p ≡ p = clamp-above h (≤ℤ-of-<ℤ a) in
+        let g : clamp (v -ℤ p) (pos 0) q ≡ q = clamp-above k (lin≤ (v ∷ p ∷ q ∷ []) (lt b) (search linear depth 40) tt) in
+        lin≡ ρ (eq e & eq f & eq g) (search linear depth 40) (tt, tt)
+
+-- two equal parts
+pub clamp-halves : {m h : ℤ} → m ≡ h +ℤ h → pos 0 ≤ℤ h → (v : ℤ) → clamp v (pos 0) m ≡ clamp v (pos 0) h +ℤ clamp (v -ℤ h) (pos 0) h
+clamp-halves w k v = ap (clamp v (pos 0)) w ∙ clamp-parts k k v
+
+-- m parts of width w
+pub clamp-tiles : {w : ℤ} → pos 0 ≤ℤ w → (m : ℕ) (v : ℤ) → Σ< m (λ i. clamp (v -ℤ pos i *ℤ w) (pos 0) w) ≡ clamp v (pos 0) (pos m *ℤ w)
+clamp-tiles {w} h zero v =
+    Σ-zero (λ i. clamp (v -ℤ pos i *ℤ w) (pos 0) w)
+    ∙ lin≡ (clamp v (pos 0) (pos 0 *ℤ w) ∷ w ∷ []) (le (clamp-low v (pos 0) (pos 0 *ℤ w)) & le (clamp-high (≤ℤ-mul-nonneg (nonneg 0) h) v))
+    (search linear depth 40) (tt, tt)
+clamp-tiles {w} h (suc m) v =
+    let next : pos m *ℤ w +ℤ w ≡ pos (suc m) *ℤ w = ring (pos m ∷ w ∷ []) (search read depth 40) tt in
+    Σ-suc m (λ i. clamp (v -ℤ pos i *ℤ w) (pos 0) w)
+    ∙ ap (λ z. z +ℤ clamp (v -ℤ pos m *ℤ w) (pos 0) w) (clamp-tiles h m v)
+    ∙ sym (clamp-parts (≤ℤ-mul-nonneg (nonneg m) h) h v)
+    ∙ ap (clamp v (pos 0)) next
 
 -- ---- a factor
 pub clamp-scale : {k m : ℤ} → pos 0 ≤ℤ k → pos 0 ≤ℤ m → (v : ℤ) → clamp (k *ℤ v) (pos 0) (k *ℤ m) ≡ k *ℤ clamp v (pos 0) m

@@ -24,14 +24,15 @@ pub mod MinMax
 -- the machine's numbers with a bound: their bits, and what operations make of them
 pub mod Bits
 pub mod Held
+-- sums over a range
+pub mod RangeSum
 -- how far past a side, and how far from the nearer side
 pub mod Clamp
 pub mod Tent
 pub mod Interpolation
 -- plus in the first half, minus in the second
 pub mod HalfSign
--- sums over a range, the trapezoid sum, sums over a list
-pub mod RangeSum
+-- the trapezoid sum, sums over a list
 pub mod Trapezoid
 pub mod ListSum
 -- what a test says; a test and then another, and a test of every element, as code has them

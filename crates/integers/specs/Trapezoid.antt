@@ -5,11 +5,12 @@
 --   S-zero, S-suc                                one step at a time
 --   S-cong                                       functions that agree up to n have the same sum
 --   S-addˡ, S-scaleˡ, S-addʳ, S-scaleʳ           linear in f and in g
+--   S-sumˡ, S-sumʳ                               a sum of m functions, for f or for g
 --   S-product                                    the product rule: S(f, g) + S(g, f) = 2 (f g at n − f g at 0)
 --   S-split                                      the first p steps, and the rest
 --   S-affine, S-piece                            a range where f and g are affine is one step from end to end
 --   affine-of-step                               a function that moves by the same at each step is affine
---   S-constʳ                                     nothing moves, nothing is summed
+--   S-zeroˡ, S-constʳ                            f is 0, or g does not move: nothing is summed
 use mathlib.Core.Path.{_≡_, refl, sym, _∙_, ap, ap₂}
 use mathlib.Core.List.{[], _∷_}
 use Prim.Native.Nat.{ℕ, zero, suc, _+_, _<_, _≤_}
@@ -74,10 +75,25 @@ S-scaleʳ k f g n =
     comb (S f h n ∷ S h f n ∷ S f g n ∷ S g f n ∷ f n ∷ f 0 ∷ g n ∷ g 0 ∷ k ∷ [])
     (S-product f h n ⊕ (negsuc 0 *ℤ k) ⊗ S-product f g n ⊕ negsuc 0 ⊗ S-scaleˡ k g f n) (search read depth 40) tt
 
+pub S-zeroˡ : (g : ℕ → ℤ) (n : ℕ) → S (λ t. pos 0) g n ≡ pos 0
+unfolding S Σ<
+S-zeroˡ g zero = refl
+S-zeroˡ g (suc n) = comb (Σ< n (trapezoid (λ t. pos 0) g) ∷ g n ∷ g (suc n) ∷ []) (S-zeroˡ g n) (search read depth 40) tt
+
 pub S-constʳ : (f : ℕ → ℤ) (c : ℤ) (n : ℕ) → S f (λ t. c) n ≡ pos 0
 unfolding S Σ<
 S-constʳ f c zero = refl
 S-constʳ f c (suc n) = comb (Σ< n (trapezoid f (λ t. c)) ∷ f n ∷ f (suc n) ∷ c ∷ []) (S-constʳ f c n) (search read depth 40) tt
+
+pub S-sumˡ : (m : ℕ) (f : ℕ → ℕ → ℤ) (g : ℕ → ℤ) (n : ℕ) → S (λ t. Σ< m (λ i. f i t)) g n ≡ Σ< m (λ i. S (f i) g n)
+unfolding Σ<
+S-sumˡ zero f g n = S-zeroˡ g n
+S-sumˡ (suc m) f g n = S-addˡ (λ t. Σ< m (λ i. f i t)) (f m) g n ∙ ap (λ z. z +ℤ S (f m) g n) (S-sumˡ m f g n)
+
+pub S-sumʳ : (m : ℕ) (f : ℕ → ℤ) (g : ℕ → ℕ → ℤ) (n : ℕ) → S f (λ t. Σ< m (λ i. g i t)) n ≡ Σ< m (λ i. S f (g i) n)
+unfolding Σ<
+S-sumʳ zero f g n = S-constʳ f (pos 0) n
+S-sumʳ (suc m) f g n = S-addʳ f (λ t. Σ< m (λ i. g i t)) (g m) n ∙ ap (λ z. z +ℤ S f (g m) n) (S-sumʳ m f g n)
 
 -- ---- ranges
 pub S-split : (f g : ℕ → ℤ) (p n : ℕ) → S f g (p + n) ≡ S f g p +ℤ S (λ t. f (p + t)) (λ t. g (p + t)) n
