@@ -3,10 +3,12 @@
 -- Main results
 --   scale-held, sign-held               the direction's own numbers
 --   diff-held, side-held                from the start to a side: `scale × (side − start)`
---   width-within, width-held            the width, `scale` times over
+--   width-within, width-held, width-is  the width, `scale` times over
 --   sum-held                            both together: from the start to the far side, or to the middle
+--   past-is                             distances past a side that is read back
 --   beyond-within, near-within          at cuts between the sides, the distances past the side and from the nearer side
-use mathlib.Core.Path.{ap₂}
+--   hold-within                         at any cuts, the distance past the side, held to the width
+use mathlib.Core.Path.{_≡_, _∙_, ap, ap₂}
 use mathlib.Core.List.{[], _∷_}
 use Prim.Native.Nat.{_+_, _*_}
 use lib.IntN.{ℤ, pos, _+ℤ_, _-ℤ_, _*ℤ_}
@@ -19,13 +21,14 @@ use Rattle.integers.specs.Order.{≤ℤ-mul-nonneg, ≤ℤ-trans}
 use Rattle.integers.specs.Linear.{le, linear, lin≤}
 use Rattle.integers.specs.Within.{Within, within-le, within-self}
 use Rattle.integers.specs.MinMax.{min, min-≤ˡ, min-greatest}
+use Rattle.integers.specs.Clamp.{clamp, clamp-low, clamp-high}
 use Rattle.edge.specs.declared.Axis.{Axis}
 use Rattle.edge.specs.declared.Samples.{Samples}
 use Rattle.edge.specs.Walk.{beyond}
 use Rattle.edge.specs.Room.{extentLimit}
-use Rattle.edge.specs.Code.{AxisRoom, SamplesWithin, Closed, SamplesClosed, beyondAt, nearAt}
+use Rattle.edge.specs.Code.{AxisRoom, SamplesWithin, Closed, SamplesClosed, beyondAt, nearAt, heldAt}
 use Rattle.edge.specs.Cuts.{toSide}
-use Rattle.integers.specs.Bits.{back}
+use Rattle.integers.specs.Bits.{back, back-is}
 use Rattle.integers.specs.Held.{Held, held-number, held-add, held-mul, held-back}
 use Rattle.edge.proofs.Sizes.{difference}
 
@@ -50,11 +53,17 @@ module _ {a : Axis} {side w : ℤ} (r : AxisRoom a side w) where
   pub width-held : SFits w64 w → Held widthTimesExtentLimit (back (a .scale) *ℤ back w) (a .scale *ℤ w)
   width-held f = record { is = ap₂ _*ℤ_ (scale-held .is) (toZ-ofZ f); within = width-within }
 
+  pub width-is : SFits w64 w → back (back (a .scale) *ℤ back w) ≡ a .scale *ℤ w
+  width-is f = held-back tt (width-held f) .is
+
   pub sum-held : SFits w64 w
       → Held (extentLimit * extentLimit + widthTimesExtentLimit) (back (back (a .scale) *ℤ back (back side -ℤ back (a .start))) +ℤ back (back (a .scale) *ℤ back w)) (toSide a side +ℤ a .scale *ℤ w)
   sum-held f = held-add (held-back tt side-held) (held-back tt (width-held f))
 
   -- ---- at one cut, and at four
+  pub past-is : (k : Samples) {u : Samples} → u ≡ beyondAt a (back side) k → u ≡ beyondAt a side k
+  past-is k e = e ∙ ap (λ z. beyondAt a z k) (back-is tt (r .line))
+
   beyond-within-at : {t : ℤ} → Closed a side w t → Within (pos widthTimesExtentLimit) (beyond a side t)
   beyond-within-at c = within-le (≤ℤ-trans (c .high) (r .wide)) (within-self (c .low))
 
@@ -71,3 +80,11 @@ module _ {a : Axis} {side w : ℤ} (r : AxisRoom a side w) where
 
   pub near-within : {k : Samples} → SamplesClosed a side w k → SamplesWithin (pos widthTimesExtentLimit) (nearAt (a .scale *ℤ w) (beyondAt a side k))
   near-within c = record { first = near-within-at (c .first); second = near-within-at (c .second); third = near-within-at (c .third); fourth = near-within-at (c .fourth) }
+
+  hold-within-at : (u : ℤ) → Within (pos widthTimesExtentLimit) (clamp u (pos 0) (a .scale *ℤ w))
+  hold-within-at u =
+      within-le (≤ℤ-trans (clamp-high (≤ℤ-mul-nonneg (r .scaled) (r .width)) u) (r .wide)) (within-self (clamp-low u (pos 0) (a .scale *ℤ w)))
+
+  pub hold-within : (u : Samples) → SamplesWithin (pos widthTimesExtentLimit) (heldAt (a .scale *ℤ w) u)
+  hold-within u =
+      record { first = hold-within-at (u .first); second = hold-within-at (u .second); third = hold-within-at (u .third); fourth = hold-within-at (u .fourth) }

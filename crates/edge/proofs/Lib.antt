@@ -7,7 +7,9 @@ pub mod Sizes
 pub mod AxisNumbers
 pub mod WalkRoom
 pub mod PieceBounds
--- an edge in one quarter; the closed form at the four cuts
+-- an edge in one quarter
 pub mod InQuarter
+-- sums along a walk are the edge's; the closed form at the four cuts, of the details and of the area
+pub mod WalkForm
 pub mod CutForm
 pub mod AreaForm

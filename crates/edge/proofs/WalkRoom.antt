@@ -2,7 +2,8 @@
 --
 -- Main results
 --   x-room, y-room                  each direction of the walk
---   half-room, back-room            for half the width, and for numbers that are read back
+--   narrower-room, half-room        for a smaller width, as half of it is
+--   back-room                       for numbers that are read back
 --   steps-within                    the number of steps
 --   divisor-pos, divisor-within     what the numerators are divided by
 use mathlib.Core.Path.{_≡_, sym, _∙_, ap, subst⁻¹}
@@ -68,17 +69,19 @@ pub y-room : {w : Walk} {c : Cell} → IsWalk w → Room (w .edge) c → AxisRoo
 y-room {w} {c} (fine o e) r = subst⁻¹ (λ (z : Walk). AxisRoom (z .y) (c .top) (c .width)) e (fine-room (dy (w .edge)) (r .edge .x0) (r .edge .x1) (r .edge .y0) (r .top) (width≥0 r) (r .wide))
 y-room {w} {c} (unit s e) r = subst⁻¹ (λ (z : Walk). AxisRoom (z .y) (c .top) (c .width)) e (unit-room (dy (w .edge)) (r .edge .y0) (r .top) (width≥0 r) (width-high r))
 
-pub half-room : {a : Axis} {side w half : ℤ} → w ≡ half +ℤ half → pos 0 ≤ℤ half → AxisRoom a side w → AxisRoom a side half
-half-room {a} {side} {w} {half} e h r = record {
+pub narrower-room : {a : Axis} {side w v : ℤ} → pos 0 ≤ℤ v → v ≤ℤ w → AxisRoom a side w → AxisRoom a side v
+narrower-room {a} {w = w} {v} h k r = record {
   scaled = r .scaled;
   scale = r .scale;
   signed = r .signed;
   start = r .start;
   line = r .line;
   width = h;
-  wide = let d : a .scale *ℤ w ≡ a .scale *ℤ (half +ℤ half) = ap (λ z. a .scale *ℤ z) e in
-      lin≤ (a .scale ∷ half ∷ w ∷ []) (le (r .wide) & eq d & le (≤ℤ-mul (r .scaled) h)) (search linear depth 40) tt;
+  wide = lin≤ (a .scale ∷ v ∷ w ∷ []) (le (≤ℤ-mul (r .scaled) k) & le (r .wide)) (search linear depth 40) tt;
 }
+
+pub half-room : {a : Axis} {side w half : ℤ} → w ≡ half +ℤ half → pos 0 ≤ℤ half → AxisRoom a side w → AxisRoom a side half
+half-room {w = w} {half} e h r = narrower-room h (lin≤ (half ∷ w ∷ []) (eq e & le h) (search linear depth 40) tt) r
 
 pub back-room : {a : Axis} {side w : ℤ} → SFits w64 side → SFits w64 w → AxisRoom a side w → AxisRoom a (back side) (back w)
 back-room {a} {side} {w} f g r = subst⁻¹ (λ z. AxisRoom a z (back w)) (toZ-ofZ f) (subst⁻¹ (AxisRoom a side) (toZ-ofZ g) r)

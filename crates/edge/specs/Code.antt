@@ -5,7 +5,7 @@
 --   Closed, SamplesClosed                                a direction is between its sides, or on them
 --   beyondAt, nearAt, pieceSum,
 --   numeratorsOf, numeratorsAt                           the closed form at the four cuts
---   heldAt, areaAt                                       and of the area
+--   heldAt, areaAt                                       that of the area
 --   roundedBy                                            three numerators, rounded
 --   AxisRoom, SamplesWithin                              the ranges that they ask for
 use lib.IntN.{ℤ, pos, natAbs, _+ℤ_, _-ℤ_, _*ℤ_}

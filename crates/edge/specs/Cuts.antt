@@ -1,4 +1,4 @@
--- The steps of a walk inside a cell, and where the cell's two middles cut them.
+-- The steps of a walk inside a cell, and where the cell's two middles cut them. For the area, the steps in its rows, and where its left and right side do.
 --
 -- Definitions
 --   toSide              from a walk's start to a line
@@ -7,7 +7,7 @@
 --   meet, span          the steps of both directions at once, and so inside a cell
 --   toMiddle            the step at which a direction crosses the middle between its sides
 --   cutsAt, cuts        the first step, both middles in their order, the last step
---   rows, sideCuts      the steps in a cell's rows, and where the cell's left and right side cut them
+--   rows, sideCuts      the steps in a cell's rows; the first of them, both sides in their order, the last
 use mathlib.Core.Bool.{cond}
 use Prim.Native.Nat.{zero, suc}
 use lib.IntN.{ℤ, pos, negsuc, negℤ, _+ℤ_, _-ℤ_, _*ℤ_}

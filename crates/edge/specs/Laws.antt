@@ -11,6 +11,10 @@ pub mod Halves
 pub mod Quarter
 -- the area of an edge on the tile is its root term, and terms of the end points
 pub mod WholeTile
+-- a square cut into tiles: its area is theirs, added up
+pub mod Tiling
+-- an edge and a cell moved together: the same values
+pub mod Translation
 -- how large the integrals, the rounded details and the numerators are
 pub mod Bounds
 -- no part strictly inside: no details, here and in each cell inside
@@ -19,17 +23,13 @@ pub mod Zero
 pub mod OctilinearEdges
 -- the other way along an edge: opposite values
 pub mod Reversal
--- the sum over at most three pieces; and the rounded details by it, which compute
+-- the sum over at most three pieces; and the rounded details by it, which compute; the same of the area
 pub mod ClosedForm
 pub mod ClosedDetails
+pub mod ClosedArea
 -- the walk that `walk_of` answers comes inside where its edge does
 pub mod WalkInside
 -- cells in cells, and the room that an edge has in each
 pub mod Cells
 -- the slanted edges of 01's letters F and G
 pub mod Letters
--- an edge and a cell moved together; a square cut into tiles
-pub mod Translation
-pub mod Tiling
--- the sum over at most three pieces of the area in a cell
-pub mod ClosedArea

@@ -1,6 +1,6 @@
 -- Lemmas on the way to the laws, and shared with the functions' proofs.
 
--- records with equal fields
+-- records with equal fields; spans and cuts of equal numbers
 pub mod Records
 -- signs and extents, both ends of a walk
 pub mod Ends
@@ -10,7 +10,7 @@ pub mod Steps
 pub mod Runs
 -- the steps between two sides are consecutive
 pub mod Crossings
--- linear up to the middle, and from it on
+-- linear up to the middle, and from it on; linear between the crossings of two sides
 pub mod OneDirection
 -- how large a sum along a walk is
 pub mod SumBounds

@@ -1,4 +1,5 @@
--- What an edge adds to the table: its rounded details in a cell, and its term of the root.
+-- What an edge adds to the table: its rounded details in a cell, and its term of the root; in place of that term, where edges may lie beyond the tile, its
+-- rounded area in the tile.
 --
 -- Definitions
 --   details             h, v and d, each rounded on its own

@@ -1,12 +1,13 @@
-// What one edge adds to one cell's three Haar details, exactly, and rounded.
+// What one edge adds to one cell's three Haar details, and to the cell's area, exactly, and rounded.
 //
 // An edge runs from (x0, y0) to (x1, y1); a cell is a square with its left and top side and its width. In the cell, h is twice the integral over dy of
 // the distance from x to the nearer upright side, v is minus the same with x and y exchanged, and d is h with the sign turned in the lower half. The
 // distance to the nearer side is a tent: 0 at both sides, highest in the middle, 0 outside. `specs/` says this as sums; here is how it is worked out.
 //
 // The walk. In N = |dx| × |dy| equal steps, |dy| × x and |dx| × y move by at most 1 a step. So every side and middle of a cell is crossed at a whole
-// step t (a step here is one of these; 01's step, 1/256 pixel, is what coordinates count), found by one product and no division, and each value is a whole number over N. A level, upright or 45-degree edge is walked in unit steps:
-// its values are whole, and nothing is divided by N. The walk is worked out once for an edge and passed by value from cell to cell.
+// step t (a step here is one of these; 01's step, 1/256 pixel, is what coordinates count), found by one product and no division, and each value is a
+// whole number over N. A level, upright or 45-degree edge is walked in unit steps: its values are whole, and nothing is divided by N. The walk is worked
+// out once for an edge and passed by value from cell to cell.
 //
 // The cuts. The steps inside a cell are consecutive, from the later of two entries to the earlier of two exits. The crossings of the two middles cut
 // them into at most three pieces. On a piece each tent rises or falls steadily, as x and y do,
@@ -15,10 +16,19 @@
 //       sides       ____/  \____          cut where x, or y, is in the middle of the cell
 //
 // so twice the integral of f dg over a piece is (f at its start + f at its end) × (g at its end − g at its start). For h, f is the tent of x and g is y;
-// v is minus that for the tent of y and x; for d, both are tents.
+// v is minus that for the tent of y and x; for d, both are tents. An edge that lies in one quarter of the cell is one such piece from end to end, and its
+// details are whole: no cuts and no division by N.
 //
-// An edge that lies in one quarter of the cell is one such piece from end to end, and its values are whole: no cuts and no division by N. No step is
-// visited, no number passes 64 bits (`specs/Room.antt`), and nothing is rounded but the three values, each on its own.
+// The area. It is h with another f: how far x lies past the left side, held between 0 and the cell's width. To the right of the cell that is the width, so an
+// edge beyond the cell has a part in its area too, as long as it is in the cell's rows. These steps are cut where the walk crosses the left and the right
+// side,
+//
+//       width            ____
+//       0           ____/                 held x, from left to right
+//
+// and a piece adds the same product.
+//
+// No step is visited, no number passes 64 bits (`specs/Room.antt`), and nothing is rounded but the three details and the area, each on its own.
 
 ghost use mathlib.Core.Path.{_≡_};
 ghost use mathlib.Core.Logic.{_⊎_};
@@ -372,19 +382,23 @@ fn numerators(a: Axis, b: Axis, c: Cell, k: Samples) -> Details
     }
 }
 
-// Each on its own, to the nearest whole number, halves away from zero; whole numbers as they are.
+// To the nearest whole number, halves away from zero. Over 1 a number is whole, and nothing is divided.
+fn round_one(m: i64, n: i64) -> i64
+    requires { ⌜ pos 0 <ℤ n ⌝ }
+    ensures { λ r. ⌜ r ≡ roundHalfAway m (natAbs n) ⌝ }
+{
+    if n == 1 { m } else { div_round_half_away(m, n) }
+}
+
+// Each on its own.
 fn round_all(m: Details, n: i64) -> Details
     requires { ⌜ pos 0 <ℤ n ⌝ }
     ensures { λ r. ⌜ r ≡ roundedBy n m ⌝ }
 {
-    if n == 1 {
-        m
-    } else {
-        Details {
-            h: div_round_half_away(m.h, n),
-            v: div_round_half_away(m.v, n),
-            d: div_round_half_away(m.d, n),
-        }
+    Details {
+        h: round_one(m.h, n),
+        v: round_one(m.v, n),
+        d: round_one(m.d, n),
     }
 }
 
@@ -474,7 +488,7 @@ pub fn details_in(w: Walk, c: Cell) -> Details
 
 // ---- the rounded area
 
-// From 0 to m at each cut.
+// Held between 0 and m, at each cut.
 fn hold_at(m: i64, u: Samples) -> Samples
     ensures { λ r. ⌜ r ≡ heldAt m u ⌝ }
 {
@@ -486,7 +500,7 @@ fn hold_at(m: i64, u: Samples) -> Samples
     }
 }
 
-// The steps of the walk in the cell's rows.
+// The steps of the walk, from 0 to its last, in the cell's rows: y is between its sides there, and x may be anywhere.
 fn rows_of(w: Walk, c: Cell) -> Span
     requires { ⌜ IsWalk w × Room (w .edge) c ⌝ }
     ensures { λ s. ⌜ s ≡ rows (w .y) c (w .steps) ⌝ }
@@ -496,7 +510,7 @@ fn rows_of(w: Walk, c: Cell) -> Span
     meet(r, r, n)
 }
 
-// The area, `divisor` times over, at cuts in the rows: x is held to the cell's width.
+// The area, `divisor` times over, from cuts in the rows.
 fn area_numerator(a: Axis, b: Axis, c: Cell, k: Samples) -> i64
     requires { ⌜ AxisRoom a (c .left) (c .width) × AxisRoom b (c .top) (c .width) × SamplesWithin (pos crossingLimit) k × SamplesClosed b (c .top) (c .width) k ⌝ }
     ensures { λ r. ⌜ r ≡ areaAt a b c k ⌝ }
@@ -506,15 +520,8 @@ fn area_numerator(a: Axis, b: Axis, c: Cell, k: Samples) -> i64
     pieces(x, y)
 }
 
-// Rounded on its own; a whole number as it is.
-fn round_one(m: i64, n: i64) -> i64
-    requires { ⌜ pos 0 <ℤ n ⌝ }
-    ensures { λ r. ⌜ r ≡ roundHalfAway m (natAbs n) ⌝ }
-{
-    if n == 1 { m } else { div_round_half_away(m, n) }
-}
-
-// Where some step is in the rows: the sum over the pieces, rounded.
+// Where some step is in the rows: the sum over the pieces, rounded. The sides are crossed as a middle would be that lies 0, or the whole width, past the
+// left side.
 fn cut_area(w: Walk, c: Cell, s: Span) -> i64
     requires { ⌜ IsWalk w × Room (w .edge) c × (s ≡ rows (w .y) c (w .steps)) × (s .first <ℤ s .last) ⌝ }
     ensures { λ r. ⌜ r ≡ roundedArea (w .edge) c ⌝ }
@@ -527,7 +534,7 @@ fn cut_area(w: Walk, c: Cell, s: Span) -> i64
     round_one(area_numerator(w.x, w.y, c, k), w.divisor)
 }
 
-// The edge's part of the cell's area, rounded. An edge beyond the cell has one too: to the right of it, in its rows.
+// The rounded area of the walk's edge in the cell. An edge that does not come inside may have one: to the right of the cell, in its rows.
 pub fn area_in(w: Walk, c: Cell) -> i64
     requires { ⌜ IsWalk w × Room (w .edge) c ⌝ }
     ensures { λ r. ⌜ r ≡ roundedArea (w .edge) c ⌝ }

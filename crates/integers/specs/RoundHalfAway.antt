@@ -2,7 +2,7 @@
 --
 -- Main results
 --   roundHalfAway-neg                 it is odd in n
---   roundHalfAway-mul                 exact on multiples of d
+--   roundHalfAway-mul, -one           exact on multiples of d, and so of 1
 --   roundHalfAway-bounds              its error, as `ErrorBounds`: at most a half either way, and a half only away from zero
 --   roundHalfAway-error               |2 (d q − n)| ≤ d, the same in one magnitude
 --   roundHalfAway-of-bounds           no other number has such an error; with ′, of a divisor that is an integer, as code has it
@@ -19,7 +19,7 @@ use native.Mathlib.Nat.{div-add-mod, mod-lt, div-eq-of-lt, div-eq-of-lt-le}
 use lib.Dec.{ltb→lt}
 use lib.IntN.{ℤ, pos, negsuc, negℤ, negℤ-negℤ, natAbs, _+ℤ_, _-ℤ_, _*ℤ_}
 use lib.Signed.{_≤ℤ_, _<ℤ_}
-use Rattle.integers.specs.Ring.{_⊗_}
+use Rattle.integers.specs.Ring.{read, ring, _⊗_}
 use Rattle.integers.specs.Order.{pos-≤ℤ, positive, ≤-of-pos, nonneg, ≤ℤ-mul, ≤ℤ-or-<ℤ, ≤ℤ-antisym, ≤ℤ-of-<ℤ, add-one-≤ℤ, ≤ℤ-of-≡}
 use Rattle.integers.specs.Linear.{le, lt, eq, _&_, linear, lin≤, lin<, lin≡, lin⊥}
 use Rattle.integers.specs.Magnitude.{abs, abs-le}
@@ -54,6 +54,9 @@ pub roundHalfAway-mul : (n : ℤ) {d : ℕ} → 0 < d → roundHalfAway (n *ℤ 
 unfolding roundHalfAway
 roundHalfAway-mul (pos n) h = ap pos (nearestℕ-mul n h)
 roundHalfAway-mul (negsuc n) {d} h = roundHalfAway-neg (pos (suc n * d)) h ∙ ap (λ (x : ℕ). negℤ (pos x)) (nearestℕ-mul (suc n) h)
+
+pub roundHalfAway-one : (n : ℤ) → roundHalfAway n 1 ≡ n
+roundHalfAway-one n = ap (λ z. roundHalfAway z 1) {y = n *ℤ pos 1} (ring (n ∷ []) (search read depth 40) tt) ∙ roundHalfAway-mul n {d = 1} (omega arith)
 
 -- ---- the error
 pub record ErrorBounds (n d q : ℤ) : Type 0 where

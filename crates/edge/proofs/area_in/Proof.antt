@@ -1,6 +1,5 @@
 -- Nothing where no step is in the rows; the cuts otherwise.
-use mathlib.Core.Path.{_≡_, sym, _∙_, ap, subst}
-use lib.IntN.{ℤ, pos}
+use mathlib.Core.Path.{sym, subst}
 use lib.Signed.{_≤ℤ_, _<ℤ_}
 use mir.Syntax.{w64}
 use mir.Val.{SFits}
@@ -38,7 +37,7 @@ returns-2 c =
     let i : SFits w64 (t .first) = record { sfits = g .0 .1 } in
     let j : SFits w64 (t .last) = record { sfits = g .1 .0 .1 } in
     let l : t .last ≤ℤ t .first = search tests in
-    sym (no-area (s .pre .0) (s .args .c) (width≥0 (s .pre .1)) (subst (λ (z : Span). z .last ≤ℤ z .first) (r .rows-of .ensures) l))
+    sym (no-area (s .args .c) (width≥0 (s .pre .1)) (s .pre .0) (subst (λ (z : Span). z .last ≤ℤ z .first) (r .rows-of .ensures) l))
 
 pub area-in-spec : {M : Type 1} → statement M
 area-in-spec = tie.close (tie.spec rows-of-requires cut-area-requires returns returns-2)

@@ -1,42 +1,28 @@
 -- The area of a walk with some step in a cell's rows, by its cuts.
-use mathlib.Core.Path.{_≡_, refl, _∙_, ap, ap₂, subst, subst⁻¹}
-use mathlib.Core.List.{[], _∷_}
-use lib.IntN.{ℤ, pos, natAbs, _*ℤ_}
-use lib.Signed.{_≤ℤ_, _<ℤ_}
-use mir.Facts.{toZ-ofZ}
+use mathlib.Core.Path.{_≡_, _∙_, ap, ap₂, subst, subst⁻¹}
+use lib.IntN.{pos, natAbs}
+use lib.Signed.{_<ℤ_}
 use borrow.Author.Needs.{needs}
 use Rattle.integers.specs.Order.{nonneg}
-use Rattle.integers.specs.Linear.{none!, linear, lin≤}
 use Rattle.integers.specs.Rounding.{roundHalfAway}
 use Rattle.integers.specs.Bits.{back-is, fits-within, result-is}
-use Rattle.edge.specs.declared.Axis.{Axis}
 use Rattle.edge.specs.declared.Span.{Span}
-use Rattle.edge.specs.Cuts.{rows, toMiddle, cutsAt, sideCuts}
+use Rattle.edge.specs.Cuts.{rows, toMiddle, sideCuts}
 use Rattle.edge.specs.Room.{crossingLimit}
+use Rattle.edge.specs.Lemmas.Records.{cuts-at-eq}
 use Rattle.edge.specs.Code.{AxisRoom, SamplesWithin, SamplesClosed, areaAt}
 use Rattle.edge.proofs.Sizes.{width≥0, width-within}
-use Rattle.edge.proofs.WalkRoom.{x-room, y-room, back-room, steps-within, divisor-pos, divisor-within}
+use Rattle.edge.proofs.WalkRoom.{x-room, y-room, narrower-room, back-room, steps-within, divisor-pos, divisor-within}
 use Rattle.edge.proofs.CutForm.{ordered-within}
 use Rattle.edge.proofs.AreaForm.{InRows, cut-area, cuts-in-rows}
 use Rattle.edge.proofs.cut_area.Statement.{statement}
 use Rattle.edge.proofs.cut_area.Tie as tie
 
--- a width of 0 has room wherever a width has
-zero-room : {a : Axis} {side w : ℤ} → AxisRoom a side w → AxisRoom a side (pos 0)
-zero-room {a} r = record {
-  scaled = r .scaled;
-  scale = r .scale;
-  signed = r .signed;
-  start = r .start;
-  line = r .line;
-  width = nonneg 0;
-  wide = lin≤ (a .scale ∷ []) none! (search linear depth 40) tt;
-}
-
 middle-of-requires : tie.Need-middle-of-requires
 middle-of-requires c κs =
     let p = c .before .pre in
-    subst⁻¹ (λ z. AxisRoom (c .before .args .w .x) z (pos 0)) (back-is tt (p .1 .left)) (zero-room (x-room (p .0) (p .1)))
+    let r = x-room (p .0) (p .1) in
+    subst⁻¹ (λ z. AxisRoom (c .before .args .w .x) z (pos 0)) (back-is tt (p .1 .left)) (narrower-room (nonneg 0) (r .width) r)
 
 middle-of-requires-2 : tie.Need-middle-of-requires-2
 middle-of-requires-2 c κs =
@@ -45,9 +31,6 @@ middle-of-requires-2 c κs =
 
 cuts-of-requires : tie.Need-cuts-of-requires
 cuts-of-requires c κs = search needs
-
-cuts-at-eq : {s s′ : Span} {x x′ y y′ : ℤ} → s ≡ s′ → x ≡ x′ → y ≡ y′ → cutsAt (s .first) (s .last) x y ≡ cutsAt (s′ .first) (s′ .last) x′ y′
-cuts-at-eq {s} {s′} {x} {x′} {y} {y′} p q r = ap (λ (z : Span). cutsAt (z .first) (z .last) x y) p ∙ ap₂ (cutsAt (s′ .first) (s′ .last)) q r
 
 -- ---- the cuts
 module _ (c : tie.After-cuts-of) where
@@ -66,8 +49,8 @@ module _ (c : tie.After-cuts-of) where
       ∙ cuts-at-eq (p .2) (result-is (x .middle-of .ok) (x .middle-of .ensures ∙ ap (λ z. toMiddle (s .args .w .x) z (pos 0)) (back-is tt (p .1 .left))))
       (result-is (y .middle-of2 .ok) (y .middle-of2 .ensures ∙ ap₂ (toMiddle (s .args .w .x)) (back-is tt (p .1 .left)) (back-is tt (width-within (p .1)))))
 
-  in-rows : InRows (s .args .c) (s .args .w)
-  in-rows = cuts-in-rows (s .pre .0) (s .args .c) (width≥0 (s .pre .1)) some
+  in-rows : InRows (s .args .w .y) (s .args .c) (s .args .w .steps) (sideCuts (s .args .w .x) (s .args .w .y) (s .args .c) (s .args .w .steps))
+  in-rows = cuts-in-rows (s .args .c) (width≥0 (s .pre .1)) (s .pre .0) some
 
 area-numerator-requires : tie.Need-area-numerator-requires
 area-numerator-requires c κs =
@@ -93,7 +76,7 @@ returns c =
     result-is (c .round-one .ok) (c .round-one .ensures
     ∙ ap₂ (λ z n. roundHalfAway z (natAbs n)) (result-is (m .area-numerator .ok) (m .area-numerator .ensures ∙ ap (areaAt (a .w .x) (a .w .y) (a .c)) (cuts-are k)))
     (back-is tt (divisor-within (p .0) (p .1 .edge)))
-    ∙ cut-area (p .0) (a .c) (width≥0 (p .1)) (some k))
+    ∙ cut-area (a .c) (width≥0 (p .1)) (p .0) (some k))
 
 pub cut-area-spec : {M : Type 1} → statement M
 cut-area-spec =

@@ -1,16 +1,17 @@
 -- The details of a walk that comes strictly inside a cell, by its cuts.
 use mathlib.Core.Path.{_≡_, _∙_, ap, ap₂, subst, subst⁻¹}
-use lib.IntN.{ℤ, pos}
+use lib.IntN.{pos}
 use lib.Signed.{_<ℤ_}
 use mir.Facts.{toZ-ofZ}
 use borrow.Author.Needs.{needs}
 use Rattle.edge.specs.declared.Span.{Span}
-use Rattle.edge.specs.Cuts.{span, toMiddle, cuts, cutsAt}
+use Rattle.edge.specs.Cuts.{span, toMiddle, cuts}
 use Rattle.edge.specs.Room.{crossingLimit}
 use Rattle.edge.specs.Code.{SamplesWithin, SamplesClosed, numeratorsAt, roundedBy}
+use Rattle.edge.specs.Lemmas.Records.{cuts-at-eq}
 use Rattle.integers.specs.Bits.{back-is, fits-within, result-is}
 use Rattle.edge.proofs.WalkRoom.{x-room, y-room, back-room, half-room, steps-within, divisor-pos, divisor-within}
-use Rattle.edge.proofs.CutForm.{InCell, cut-details, cuts-in-cell, ordered-within}
+use Rattle.edge.proofs.CutForm.{InCell, ordered-within, cuts-in-cell, cut-details}
 use Rattle.edge.proofs.cut_details.Statement.{statement}
 use Rattle.edge.proofs.cut_details.Tie as tie
 use Rattle.edge.proofs.cut_details.Reads as reads
@@ -35,9 +36,6 @@ middle-of-requires-2 c κs =
 cuts-of-requires : tie.Need-cuts-of-requires
 cuts-of-requires c κs = search needs
 
-cuts-at-eq : {s s′ : Span} {x x′ y y′ : ℤ} → s ≡ s′ → x ≡ x′ → y ≡ y′ → cutsAt (s .first) (s .last) x y ≡ cutsAt (s′ .first) (s′ .last) x′ y′
-cuts-at-eq {s} {s′} {x} {x′} {y} {y′} p q r = ap (λ (z : Span). cutsAt (z .first) (z .last) x y) p ∙ ap₂ (cutsAt (s′ .first) (s′ .last)) q r
-
 -- ---- the cuts
 module _ (c : lts.After-cuts-of (middle-of-reads.Asked, middle-of-reads.Learnt, cuts-of-reads.Asked, cuts-of-reads.Learnt, numerators-reads.Asked, numerators-reads.Learnt, round-all-reads.Asked, round-all-reads.Learnt) reads.Pre reads.Post) where
   abbrev s : lts.Start (middle-of-reads.Asked, middle-of-reads.Learnt, cuts-of-reads.Asked, cuts-of-reads.Learnt, numerators-reads.Asked, numerators-reads.Learnt, round-all-reads.Asked, round-all-reads.Learnt) reads.Pre reads.Post
@@ -56,8 +54,8 @@ module _ (c : lts.After-cuts-of (middle-of-reads.Asked, middle-of-reads.Learnt, 
       ∙ cuts-at-eq (p .4) (result-is (x .middle-of .ok) (x .middle-of .ensures ∙ ap₂ (toMiddle (s .args .w .x)) (back-is tt (p .1 .left)) half))
       (result-is (y .middle-of2 .ok) (y .middle-of2 .ensures ∙ ap₂ (toMiddle (s .args .w .y)) (back-is tt (p .1 .top)) half))
 
-  in-cell : InCell (s .args .c) (s .args .half) (s .args .w)
-  in-cell = cuts-in-cell (s .pre .0) (s .args .c) (s .args .half) (s .pre .2) (s .pre .3) inside
+  in-cell : InCell (s .args .w .x) (s .args .w .y) (s .args .c) (s .args .w .steps) (cuts (s .args .w .x) (s .args .w .y) (s .args .c) (s .args .half) (s .args .w .steps))
+  in-cell = cuts-in-cell (s .args .c) (s .args .half) (s .pre .2) (s .pre .3) (s .pre .0) inside
 
 numerators-requires : tie.Need-numerators-requires
 numerators-requires c κs =
@@ -83,7 +81,7 @@ returns c =
     let p = s k .pre in
     c .round-all .ensures
     ∙ ap₂ roundedBy (back-is tt (divisor-within (p .0) (p .1 .edge))) (m .numerators .ensures ∙ ap (numeratorsAt (a .w .x) (a .w .y) (a .c)) (cuts-are k))
-    ∙ cut-details (p .0) (a .c) (a .half) (p .2) (p .3) (inside k)
+    ∙ cut-details (a .c) (a .half) (p .2) (p .3) (p .0) (inside k)
 
 pub cut-details-spec : {M : Type 1} → statement M
 cut-details-spec = tie.close (tie.spec middle-of-requires middle-of-requires-2 cuts-of-requires numerators-requires round-all-requires returns)

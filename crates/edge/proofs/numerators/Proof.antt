@@ -12,10 +12,10 @@ use Rattle.integers.specs.Machine.{machine, linfits, known}
 use Rattle.edge.specs.declared.Axis.{Axis}
 use Rattle.edge.specs.declared.Samples.{Samples}
 use Rattle.edge.specs.Code.{AxisRoom, SamplesWithin, SamplesClosed, beyondAt, nearAt, pieceSum}
-use Rattle.integers.specs.Bits.{back, back-is, result-is}
+use Rattle.integers.specs.Bits.{back, result-is}
 use Rattle.edge.specs.Lemmas.Records.{details-eq}
 use Rattle.integers.specs.Held.{held-fits, held-back, held-within}
-use Rattle.edge.proofs.AxisNumbers.{width-held, beyond-within, near-within}
+use Rattle.edge.proofs.AxisNumbers.{width-held, width-is, past-is, beyond-within, near-within}
 use Rattle.edge.proofs.PieceBounds.{pieceLimit, pieceSum-within}
 use Rattle.edge.proofs.numerators.Statement.{statement}
 use Rattle.edge.proofs.numerators.Tie as tie
@@ -36,21 +36,14 @@ record Found (a : Axis) (side w : ℤ) (k u v : Samples) : Type 0 where
   near : v ≡ nearAt (a .scale *ℤ w) (beyondAt a side k)
   near-bound : Bounded v
 
-module _ {a : Axis} {side w : ℤ} (r : AxisRoom a side w) where
-  width-is : SFits w64 w → back (back (a .scale) *ℤ back w) ≡ a .scale *ℤ w
-  width-is f = held-back tt (width-held r f) .is
+module _ {a : Axis} {side w : ℤ} (r : AxisRoom a side w) {k : Samples} (c : SamplesClosed a side w k) {u : Samples} (e : u ≡ beyondAt a (back side) k) where
+  past-within : Bounded u
+  past-within = subst⁻¹ Bounded (past-is r k e) (beyond-within r c)
 
-  module _ {k : Samples} (c : SamplesClosed a side w k) {u : Samples} (e : u ≡ beyondAt a (back side) k) where
-    past-is : u ≡ beyondAt a side k
-    past-is = e ∙ ap (λ z. beyondAt a z k) (back-is tt (r .line))
-
-    past-within : Bounded u
-    past-within = subst⁻¹ Bounded past-is (beyond-within r c)
-
-    found : {v : Samples} → SFits w64 w → v ≡ nearAt (back (back (a .scale) *ℤ back w)) u → Found a side w k u v
-    found {v} f h =
-        let i : v ≡ nearAt (a .scale *ℤ w) (beyondAt a side k) = h ∙ ap₂ nearAt (width-is f) past-is in
-        record { past = past-is; past-bound = past-within; near = i; near-bound = subst⁻¹ Bounded i (near-within r c) }
+  found : {v : Samples} → SFits w64 w → v ≡ nearAt (back (back (a .scale) *ℤ back w)) u → Found a side w k u v
+  found {v} f h =
+      let i : v ≡ nearAt (a .scale *ℤ w) (beyondAt a side k) = h ∙ ap₂ nearAt (width-is r f) (past-is r k e) in
+      record { past = past-is r k e; past-bound = past-within; near = i; near-bound = subst⁻¹ Bounded i (near-within r c) }
 
 beyond-at-requires : tie.Need-beyond-at-requires
 beyond-at-requires c κs = search needs

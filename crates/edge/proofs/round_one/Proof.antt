@@ -1,13 +1,13 @@
 -- A numerator, rounded. Over 1 it is itself.
 use mathlib.Core.Path.{_≡_, _∙_, sym, ap, ap₂}
-use lib.IntN.{ℤ, pos, natAbs}
+use lib.IntN.{pos, natAbs}
 use borrow.Author.Needs.{needs}
 use mir.Syntax.{w64}
 use mir.Val.{toZ}
 use mir.Facts.{toZ-ofZ}
 use Rattle.integers.specs.Rounding.{roundHalfAway}
+use Rattle.integers.specs.RoundHalfAway.{roundHalfAway-one}
 use Rattle.integers.specs.Bits.{result-is}
-use Rattle.edge.proofs.CutForm.{whole}
 use Rattle.edge.proofs.round_one.Statement.{statement}
 use Rattle.edge.proofs.round_one.Tie as tie
 
@@ -18,7 +18,7 @@ returns : tie.Need-returns
 returns c =
     let s = c .before in
     let e : s .args .n ≡ pos 1 = sym (toZ-ofZ (s .fits .n)) ∙ ap (toZ w64) (c .if1 .taken) in
-    toZ-ofZ (s .fits .m) ∙ sym (whole (s .args .m)) ∙ ap (λ y. roundHalfAway (s .args .m) (natAbs y)) (sym e)
+    toZ-ofZ (s .fits .m) ∙ sym (roundHalfAway-one (s .args .m)) ∙ ap (λ y. roundHalfAway (s .args .m) (natAbs y)) (sym e)
 
 returns-2 : tie.Need-returns-2
 returns-2 c =

@@ -1,10 +1,7 @@
 -- The steps strictly inside a cell: those between the sides both ways.
-use mathlib.Core.Path.{_≡_, _∙_, ap, ap₂}
-use lib.IntN.{ℤ}
+use mathlib.Core.Path.{_∙_}
 use borrow.Author.Needs.{needs}
-use Rattle.edge.specs.declared.Axis.{Axis}
-use Rattle.edge.specs.declared.Span.{Span}
-use Rattle.edge.specs.Cuts.{stripOf, meet}
+use Rattle.edge.specs.Lemmas.Records.{strip-of-eq, meet-eq}
 use Rattle.integers.specs.Bits.{back-is, fits-within}
 use Rattle.edge.proofs.Sizes.{width-within}
 use Rattle.edge.proofs.WalkRoom.{x-room, y-room, back-room, steps-within}
@@ -23,12 +20,6 @@ strip-of-requires-2 c κs =
 
 meet-requires : tie.Need-meet-requires
 meet-requires c κs = search needs
-
-strip-of-eq : (a : Axis) {p p′ w w′ n n′ : ℤ} → p ≡ p′ → w ≡ w′ → n ≡ n′ → stripOf a p w n ≡ stripOf a p′ w′ n′
-strip-of-eq a {p} {p′} {w} {w′} {n} {n′} i j k = ap₂ (λ x y. stripOf a x y n) i j ∙ ap (stripOf a p′ w′) k
-
-meet-eq : {r r′ s s′ : Span} {n n′ : ℤ} → r ≡ r′ → s ≡ s′ → n ≡ n′ → meet r s n ≡ meet r′ s′ n′
-meet-eq {r} {r′} {s} {s′} {n} {n′} i j k = ap₂ (λ x y. meet x y n) i j ∙ ap (meet r′ s′) k
 
 returns : tie.Need-returns
 returns c =

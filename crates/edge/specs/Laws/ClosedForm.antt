@@ -4,20 +4,17 @@
 -- Main results
 --   threeAt, edgeCuts                                         three pieces at the cuts; the cuts of an edge's walk
 --   ordered                                                   the cuts are steps of the walk, in order
---   cuts-closed                                               at each step from the first to the last the walk is in the closed cell
+--   x-closed, y-closed                                        from the first to the last the walk is in the closed cell
 --   near-past-closed, past-near-closed, near-near-closed      the closed form of a walk
 --   cuts-of-inside, h-closed, v-closed, d-closed              and of an edge that comes strictly inside
-use mathlib.Core.Path.{_≡_, sym, _∙_, ap, subst}
+use mathlib.Core.Path.{_≡_, sym, _∙_, ap}
 use mathlib.Core.List.{[], _∷_}
 use mathlib.Core.Logic.{_⊎_, inl, inr}
 use Prim.Native.Nat.{ℕ}
-use lib.IntN.{ℤ, pos, negℤ, _+ℤ_, _-ℤ_}
+use lib.IntN.{ℤ, pos, negℤ, _+ℤ_}
 use lib.Signed.{_≤ℤ_, _<ℤ_}
-use Rattle.integers.specs.Ring.{read, ring}
-use Rattle.integers.specs.Order.{≤ℤ-or-<ℤ, ≤ℤ-trans, ≤ℤ-of-<ℤ, ≤ℤ-mul-nonneg, add-one-≤ℤ}
-use Rattle.integers.specs.Linear.{le, lt, eq, _&_, none!, linear, lin≤, lin⊥}
-use Rattle.integers.specs.MinMax.{min, max, min-≤ˡ, min-≤ʳ, min-greatest, max-≥ˡ, max-≥ʳ, max-least}
-use Rattle.integers.specs.Clamp.{clamp, clamp-low, clamp-high}
+use Rattle.integers.specs.Order.{≤ℤ-trans, ≤ℤ-of-<ℤ, ≤ℤ-mul-nonneg}
+use Rattle.integers.specs.Linear.{le, eq, _&_, linear, lin≤}
 use Rattle.edge.specs.declared.Edge.{Edge}
 use Rattle.edge.specs.declared.Cell.{Cell}
 use Rattle.edge.specs.declared.Axis.{Axis}
@@ -26,13 +23,12 @@ use Rattle.edge.specs.Walk.{steps, xAxis, yAxis, past, near}
 use Rattle.edge.specs.Integrals.{along, hOn, dOn, hNum, vNum, dNum}
 use Rattle.edge.specs.Inside.{Between, Inside}
 use Rattle.edge.specs.Lemmas.Ends.{Steady, steady-within, x-steady, y-steady}
-use Rattle.edge.specs.Lemmas.Steps.{exchanged, Outside, Rests, between-or-outside, between-ends, outside-rests}
-use Rattle.edge.specs.Code.{Closed}
-use Rattle.edge.specs.Lemmas.Runs.{three, Ordered, three-pieces, upto-all}
+use Rattle.edge.specs.Lemmas.Steps.{exchanged, Outside, Rests, between-or-outside, outside-rests}
+use Rattle.edge.specs.Lemmas.Runs.{three, Ordered, cuts-ordered, LinearThrice, three-pieces, upto-all}
 use Rattle.edge.specs.Laws.Zero.{idle-near-past, idle-near-near}
-use Rattle.edge.specs.Cuts.{span, cuts, toMiddle}
-use Rattle.edge.specs.Lemmas.Crossings.{span-steps, span-low, span-high, inside-span}
-use Rattle.edge.specs.Lemmas.OneDirection.{BothLinear, both-linear}
+use Rattle.edge.specs.Cuts.{stripOf, span, cuts, toMiddle}
+use Rattle.edge.specs.Lemmas.Crossings.{steps-beyond, span-steps, meet-low, meet-high, inside-span}
+use Rattle.edge.specs.Lemmas.OneDirection.{ClosedRun, between-run, besideˡ, besideʳ, past-closed, near-thrice}
 
 abbrev pub threeAt : (ℤ → ℤ) → (ℤ → ℤ) → Samples → ℤ
 threeAt f g s = three f g (s .first) (s .second) (s .third) (s .fourth)
@@ -49,12 +45,6 @@ module _ (a b : Axis) (sa : Steady a) (sb : Steady b) (c : Cell) (half : ℤ) (e
   abbrev q : ℤ
   q = span a b c (pos n) .last
 
-  abbrev mx : ℤ
-  mx = clamp (toMiddle a (c .left) half) p q
-
-  abbrev my : ℤ
-  my = clamp (toMiddle b (c .top) half) p q
-
   abbrev k : Samples
   k = cuts a b c half (pos n)
 
@@ -62,10 +52,10 @@ module _ (a b : Axis) (sa : Steady a) (sb : Steady b) (c : Cell) (half : ℤ) (e
   w≥0 = lin≤ (w ∷ half ∷ []) (eq even & le hh) (search linear depth 40) tt
 
   p≥0 : pos 0 ≤ℤ p
-  p≥0 = span-low a b sa sb c (pos n)
+  p≥0 = meet-low (stripOf a (c .left) w (pos n)) (stripOf b (c .top) w (pos n)) (pos n)
 
   q≤n : q ≤ℤ pos n
-  q≤n = span-high a b sa sb c (pos n)
+  q≤n = meet-high (stripOf a (c .left) w (pos n)) (stripOf b (c .top) w (pos n)) (pos n)
 
   p≤q : p ≤ℤ q
   p≤q = ≤ℤ-of-<ℤ inside
@@ -74,32 +64,20 @@ module _ (a b : Axis) (sa : Steady a) (sb : Steady b) (c : Cell) (half : ℤ) (e
   both : (t : ℤ) → p ≤ℤ t → (t +ℤ pos 1) ≤ℤ q → Between a (c .left) w t × Between b (c .top) w t
   both t h j = span-steps a b sa sb c (pos n) .from t (≤ℤ-trans p≥0 h) (≤ℤ-trans j q≤n) h j
 
-  pub cuts-closed : (t : ℤ) → p ≤ℤ t → t ≤ℤ q → Closed a (c .left) w t × Closed b (c .top) w t
-  cuts-closed t h j = go (≤ℤ-or-<ℤ q t)
-    where
-      go : (q ≤ℤ t) ⊎ (t <ℤ q) → Closed a (c .left) w t × Closed b (c .top) w t
-      go (inr i) =
-          let s = both t h (add-one-≤ℤ i) in
-          (between-ends a (c .left) w t (steady-within sa) (s .0) .0, between-ends b (c .top) w t (steady-within sb) (s .1) .0)
-      go (inl i) =
-          let s = both (t -ℤ pos 1) (lin≤ (t ∷ p ∷ q ∷ []) (le i & lt inside) (search linear depth 40) tt) (lin≤ (t ∷ q ∷ []) (le j) (search linear depth 40) tt) in
-          let e : t -ℤ pos 1 +ℤ pos 1 ≡ t = ring (t ∷ []) (search read depth 40) tt in (
-            subst (Closed a (c .left) w) e (between-ends a (c .left) w (t -ℤ pos 1) (steady-within sa) (s .0) .1),
-            subst (Closed b (c .top) w) e (between-ends b (c .top) w (t -ℤ pos 1) (steady-within sb) (s .1) .1),
-          )
+  pub x-closed : ClosedRun a (c .left) w (k .first) (k .fourth)
+  x-closed = between-run a sa (c .left) w inside (λ t h j. both t h j .0)
+
+  pub y-closed : ClosedRun b (c .top) w (k .first) (k .fourth)
+  y-closed = between-run b sb (c .top) w inside (λ t h j. both t h j .1)
 
   -- ---- outside before p and from q on
   rests : (t : ℤ) → pos 0 ≤ℤ t → (t +ℤ pos 1) ≤ℤ pos n → ((t +ℤ pos 1) ≤ℤ p) ⊎ (q ≤ℤ t) → Rests a (c .left) w t ⊎ Rests b (c .top) w t
   rests t h j o = go (between-or-outside a (c .left) w t (steady-within sa)) (between-or-outside b (c .top) w t (steady-within sb))
     where
-      not-both : ((t +ℤ pos 1) ≤ℤ p) ⊎ (q ≤ℤ t) → (p ≤ℤ t) × ((t +ℤ pos 1) ≤ℤ q) → ⊥
-      not-both (inl i) s = lin⊥ (t ∷ p ∷ []) (le i & le (s .0)) (search linear depth 40) tt
-      not-both (inr i) s = lin⊥ (t ∷ q ∷ []) (le i & le (s .1)) (search linear depth 40) tt
-
       go : Between a (c .left) w t ⊎ Outside a (c .left) w t → Between b (c .top) w t ⊎ Outside b (c .top) w t → Rests a (c .left) w t ⊎ Rests b (c .top) w t
       go (inr x) y = inl (outside-rests a (c .left) w t (≤ℤ-mul-nonneg (sa .scaled) w≥0) x)
       go (inl x) (inr y) = inr (outside-rests b (c .top) w t (≤ℤ-mul-nonneg (sb .scaled) w≥0) y)
-      go (inl x) (inl y) = absurd (not-both o (span-steps a b sa sb c (pos n) .to t h j (x, y)))
+      go (inl x) (inl y) = absurd (steps-beyond (span-steps a b sa sb c (pos n)) t h j o (x, y))
 
   rests-early : (t : ℤ) → pos 0 ≤ℤ t → (t +ℤ pos 1) ≤ℤ p → Rests a (c .left) w t ⊎ Rests b (c .top) w t
   rests-early t h j = rests t h (≤ℤ-trans j (≤ℤ-trans p≤q q≤n)) (inl j)
@@ -109,54 +87,31 @@ module _ (a b : Axis) (sa : Steady a) (sb : Steady b) (c : Cell) (half : ℤ) (e
 
   -- ---- the cuts
   pub ordered : Ordered (k .first) (k .second) (k .third) (k .fourth) (pos n)
-  ordered = record {
-    p≥0 = p≥0;
-    a≥p = min-greatest (clamp-low (toMiddle a (c .left) half) p q) (clamp-low (toMiddle b (c .top) half) p q);
-    b≥a = ≤ℤ-trans (min-≤ˡ mx my) (max-≥ˡ mx my);
-    q≥b = max-least (clamp-high p≤q (toMiddle a (c .left) half)) (clamp-high p≤q (toMiddle b (c .top) half));
-    n≥q = q≤n;
-  }
+  ordered = cuts-ordered (toMiddle a (c .left) half) (toMiddle b (c .top) half) p≥0 p≤q q≤n
 
-  -- mx, and likewise my, is one of the two middle cuts
-  middle-x : (max mx my ≤ℤ mx) ⊎ (mx ≤ℤ min mx my)
-  middle-x = go (≤ℤ-or-<ℤ mx my)
-    where
-      go : (mx ≤ℤ my) ⊎ (my <ℤ mx) → (max mx my ≤ℤ mx) ⊎ (mx ≤ℤ min mx my)
-      go (inl h) = inr (min-greatest (lin≤ (mx ∷ []) none! (search linear depth 40) tt) h)
-      go (inr h) = inl (max-least (lin≤ (mx ∷ []) none! (search linear depth 40) tt) (≤ℤ-of-<ℤ h))
+  near-x : LinearThrice (near a (c .left) w) (k .first) (k .second) (k .third) (k .fourth)
+  near-x = near-thrice x-closed ordered sa half even (besideˡ (toMiddle a (c .left) half) (toMiddle b (c .top) half) p≤q)
 
-  middle-y : (max mx my ≤ℤ my) ⊎ (my ≤ℤ min mx my)
-  middle-y = go (≤ℤ-or-<ℤ mx my)
-    where
-      go : (mx ≤ℤ my) ⊎ (my <ℤ mx) → (max mx my ≤ℤ my) ⊎ (my ≤ℤ min mx my)
-      go (inl h) = inl (max-least h (lin≤ (my ∷ []) none! (search linear depth 40) tt))
-      go (inr h) = inr (min-greatest (≤ℤ-of-<ℤ h) (lin≤ (my ∷ []) none! (search linear depth 40) tt))
-
-  lx : BothLinear a (c .left) w (k .first) (k .second) (k .third) (k .fourth)
-  lx = both-linear a sa (c .left) half even p≤q (ordered .a≥p) (ordered .b≥a) (ordered .q≥b) (record { at = λ t i j. cuts-closed t i j .0 })
-      (min-≤ˡ mx my) (max-≥ˡ mx my) middle-x
-
-  ly : BothLinear b (c .top) w (k .first) (k .second) (k .third) (k .fourth)
-  ly = both-linear b sb (c .top) half even p≤q (ordered .a≥p) (ordered .b≥a) (ordered .q≥b) (record { at = λ t i j. cuts-closed t i j .1 })
-      (min-≤ʳ mx my) (max-≥ʳ mx my) middle-y
+  near-y : LinearThrice (near b (c .top) w) (k .first) (k .second) (k .third) (k .fourth)
+  near-y = near-thrice y-closed ordered sb half even (besideʳ (toMiddle a (c .left) half) (toMiddle b (c .top) half) p≤q)
 
   pub near-past-closed : hOn a b c n ≡ threeAt (near a (c .left) w) (past b (c .top) w) (cuts a b c half (pos n))
   near-past-closed =
       sym (upto-all (near a (c .left) w) (past b (c .top) w) n)
       ∙ three-pieces (near a (c .left) w) (past b (c .top) w) ordered (record { none = λ t h j. idle-near-past (rests-early t h j) })
-      (lx .tented) (ly .whole) (record { none = λ t h j. idle-near-past (rests-late t h j) })
+      near-x (past-closed y-closed ordered) (record { none = λ t h j. idle-near-past (rests-late t h j) })
 
   pub past-near-closed : along (near b (c .top) w) (past a (c .left) w) n ≡ threeAt (near b (c .top) w) (past a (c .left) w) (cuts a b c half (pos n))
   past-near-closed =
       sym (upto-all (near b (c .top) w) (past a (c .left) w) n)
       ∙ three-pieces (near b (c .top) w) (past a (c .left) w) ordered (record { none = λ t h j. idle-near-past (exchanged (rests-early t h j)) })
-      (ly .tented) (lx .whole) (record { none = λ t h j. idle-near-past (exchanged (rests-late t h j)) })
+      near-y (past-closed x-closed ordered) (record { none = λ t h j. idle-near-past (exchanged (rests-late t h j)) })
 
   pub near-near-closed : dOn a b c n ≡ threeAt (near a (c .left) w) (near b (c .top) w) (cuts a b c half (pos n))
   near-near-closed =
       sym (upto-all (near a (c .left) w) (near b (c .top) w) n)
       ∙ three-pieces (near a (c .left) w) (near b (c .top) w) ordered (record { none = λ t h j. idle-near-near (rests-early t h j) })
-      (lx .tented) (ly .tented) (record { none = λ t h j. idle-near-near (rests-late t h j) })
+      near-x near-y (record { none = λ t h j. idle-near-near (rests-late t h j) })
 
 -- ---- an edge
 abbrev pub edgeCuts : Edge → Cell → ℤ → Samples

@@ -5,20 +5,19 @@
 --   steps-seen                               the same number of steps
 --   area-seen, h-seen, v-seen, d-seen        the four integrals
 --   details-seen, roundedArea-seen           and what is rounded of them
-use mathlib.Core.Path.{_≡_, refl, sym, _∙_, ap, ap₂}
+use mathlib.Core.Path.{_≡_, _∙_, ap₂, fun-ext}
 use mathlib.Core.List.{[], _∷_}
 use Prim.Native.Nat.{ℕ, _*_}
 use lib.IntN.{ℤ, pos, negℤ, _+ℤ_, _-ℤ_, _*ℤ_}
 use Rattle.integers.specs.Ring.{read, ring}
 use Rattle.integers.specs.Clamp.{clamp}
 use Rattle.integers.specs.Tent.{tent}
-use Rattle.integers.specs.Trapezoid.{S-cong}
 use Rattle.integers.specs.Rounding.{roundHalfAway}
 use Rattle.edge.specs.declared.Edge.{Edge}
 use Rattle.edge.specs.declared.Cell.{Cell}
 use Rattle.edge.specs.declared.Axis.{Axis}
-use Rattle.edge.specs.Walk.{extent, sign, dx, dy, ax, ay, steps, beyond, past, near}
-use Rattle.edge.specs.Integrals.{along, areaOn, hOn, vOn, dOn, areaNum, hNum, vNum, dNum}
+use Rattle.edge.specs.Walk.{extent, sign, dx, dy, ax, ay, steps, xAxis, yAxis, beyond}
+use Rattle.edge.specs.Integrals.{along, areaNum, hNum, vNum, dNum}
 use Rattle.edge.specs.Rounded.{details, roundedArea}
 use Rattle.edge.specs.Nested.{seenFrom, moved}
 
@@ -28,16 +27,6 @@ from k x s = record { scale = k; start = x; sign = s }
 
 beyond-moved : (k x s a side t : ℤ) → beyond (from k (x -ℤ a) s) side t ≡ beyond (from k x s) (a +ℤ side) t
 beyond-moved k x s a side t = ring (k ∷ x ∷ s ∷ a ∷ side ∷ t ∷ []) (search read depth 40) tt
-
-past-moved : (k x s a side w t : ℤ) → past (from k (x -ℤ a) s) side w t ≡ past (from k x s) (a +ℤ side) w t
-past-moved k x s a side w t = ap (λ u. clamp u (pos 0) (k *ℤ w)) (beyond-moved k x s a side t)
-
-near-moved : (k x s a side w t : ℤ) → near (from k (x -ℤ a) s) side w t ≡ near (from k x s) (a +ℤ side) w t
-near-moved k x s a side w t = ap (tent (k *ℤ w)) (beyond-moved k x s a side t)
-
--- what is made of the two directions and the number of steps, by the differences u and v
-abbrev by-differences : (Axis → Axis → ℕ → ℤ) → ℤ → ℤ → ℤ → ℤ → ℤ
-by-differences F x y u v = F (from (pos (extent v)) x (sign u)) (from (pos (extent u)) y (sign v)) (extent u * extent v)
 
 -- ---- an edge
 module _ (a b : ℤ) (e : Edge) where
@@ -54,33 +43,39 @@ module _ (a b : ℤ) (e : Edge) where
   steps-seen = ap₂ (λ u v. extent u * extent v) dx-seen dy-seen
 
   module _ (c : Cell) where
+    -- what is made of the two scales, of how far past the cell's left and top side the walk is after t steps, and of the number of steps
+    abbrev of-walk : (ℤ → ℤ → (ℤ → ℤ) → (ℤ → ℤ) → ℕ → ℤ) → Edge → Cell → ℤ
+    of-walk F e c = F (pos (ay e)) (pos (ax e)) (λ t. beyond (xAxis e) (c .left) t) (λ t. beyond (yAxis e) (c .top) t) (steps e)
+
+    walk-seen : (F : ℤ → ℤ → (ℤ → ℤ) → (ℤ → ℤ) → ℕ → ℤ) → of-walk F seen c ≡ of-walk F e (moved a b c)
+    walk-seen F =
+        ap₂ (λ u v. F (pos (extent v)) (pos (extent u)) (λ t. beyond (from (pos (extent v)) (e .x0 -ℤ a) (sign u)) (c .left) t) (λ t. beyond (from (pos (extent u)) (e .y0 -ℤ b) (sign v)) (c .top) t) (extent u * extent v))
+        dx-seen dy-seen
+        ∙ ap₂ (λ p q. F (pos (ay e)) (pos (ax e)) p q (steps e))
+        (fun-ext (λ t. beyond-moved (pos (ay e)) (e .x0) (sign (dx e)) a (c .left) t)) (fun-ext (λ t. beyond-moved (pos (ax e)) (e .y0) (sign (dy e)) b (c .top) t))
+
+    -- as `past` and `near` read them
+    abbrev held : ℤ → (ℤ → ℤ) → ℤ → ℤ
+    held k u t = clamp (u t) (pos 0) (k *ℤ c .width)
+
+    abbrev tented : ℤ → (ℤ → ℤ) → ℤ → ℤ
+    tented k u t = tent (k *ℤ c .width) (u t)
+
     pub area-seen : areaNum seen c ≡ areaNum e (moved a b c)
     unfolding areaNum
-    area-seen =
-        ap₂ (by-differences (λ p q n. areaOn p q c n) (e .x0 -ℤ a) (e .y0 -ℤ b)) dx-seen dy-seen
-        ∙ S-cong _ _ _ _ (steps e) (λ t h. past-moved (pos (ay e)) (e .x0) (sign (dx e)) a (c .left) (c .width) (pos t))
-        (λ t h. past-moved (pos (ax e)) (e .y0) (sign (dy e)) b (c .top) (c .width) (pos t))
+    area-seen = walk-seen (λ k l x y n. along (held k x) (held l y) n)
 
     pub h-seen : hNum seen c ≡ hNum e (moved a b c)
     unfolding hNum
-    h-seen =
-        ap₂ (by-differences (λ p q n. hOn p q c n) (e .x0 -ℤ a) (e .y0 -ℤ b)) dx-seen dy-seen
-        ∙ S-cong _ _ _ _ (steps e) (λ t h. near-moved (pos (ay e)) (e .x0) (sign (dx e)) a (c .left) (c .width) (pos t))
-        (λ t h. past-moved (pos (ax e)) (e .y0) (sign (dy e)) b (c .top) (c .width) (pos t))
+    h-seen = walk-seen (λ k l x y n. along (tented k x) (held l y) n)
 
     pub v-seen : vNum seen c ≡ vNum e (moved a b c)
     unfolding vNum
-    v-seen =
-        ap₂ (by-differences (λ p q n. vOn p q c n) (e .x0 -ℤ a) (e .y0 -ℤ b)) dx-seen dy-seen
-        ∙ ap negℤ (S-cong _ _ _ _ (steps e) (λ t h. near-moved (pos (ax e)) (e .y0) (sign (dy e)) b (c .top) (c .width) (pos t))
-        (λ t h. past-moved (pos (ay e)) (e .x0) (sign (dx e)) a (c .left) (c .width) (pos t)))
+    v-seen = walk-seen (λ k l x y n. negℤ (along (tented l y) (held k x) n))
 
     pub d-seen : dNum seen c ≡ dNum e (moved a b c)
     unfolding dNum
-    d-seen =
-        ap₂ (by-differences (λ p q n. dOn p q c n) (e .x0 -ℤ a) (e .y0 -ℤ b)) dx-seen dy-seen
-        ∙ S-cong _ _ _ _ (steps e) (λ t h. near-moved (pos (ay e)) (e .x0) (sign (dx e)) a (c .left) (c .width) (pos t))
-        (λ t h. near-moved (pos (ax e)) (e .y0) (sign (dy e)) b (c .top) (c .width) (pos t))
+    d-seen = walk-seen (λ k l x y n. along (tented k x) (tented l y) n)
 
     pub roundedArea-seen : roundedArea seen c ≡ roundedArea e (moved a b c)
     unfolding roundedArea

@@ -3,7 +3,8 @@
 --
 -- Main results
 --   inside-wider                               what lies strictly inside a cell lies strictly inside each cell that contains it
---   idle-near-past, idle-near-near             a step outside adds nothing to h, v or d
+--   idle-past                                  a step on which y rests adds nothing to the area
+--   idle-near-past, idle-near-near             nor does a step outside to h, v or d
 --   NoStepInside, no-step-inside,
 --   near-past-zero, past-near-zero,
 --   near-near-zero                             the same of any walk
@@ -12,7 +13,7 @@
 --   not-inside-within, h-zero-within,
 --   v-zero-within, d-zero-within,
 --   details-zero-within                        and in each cell inside this one
-use mathlib.Core.Path.{_≡_, sym, _∙_, ap, ap₂}
+use mathlib.Core.Path.{_≡_, _∙_, ap, ap₂}
 use mathlib.Core.List.{[], _∷_}
 use mathlib.Core.Logic.{_⊎_, inl, inr}
 use Prim.Native.Nat.{ℕ, _+_, _≤_}
@@ -34,7 +35,7 @@ use Rattle.edge.specs.Lemmas.Records.{details-eq}
 use Rattle.edge.specs.Laws.StepCount.{rounded-whole, whole-kept}
 use Rattle.edge.specs.Lemmas.Ends.{Steady, steady-within, x-steady, y-steady}
 use Rattle.edge.specs.Lemmas.Steps.{exchanged, Outside, Rests, between-or-outside, outside-rests}
-use Rattle.edge.specs.Lemmas.Runs.{piece, Idle, upto-zero, upto-all, idle-run}
+use Rattle.edge.specs.Lemmas.Runs.{piece, idle-zero}
 
 -- ---- a cell inside another
 between-wider : {a : Axis} {side′ w′ t : ℤ} (side w : ℤ) → pos 0 ≤ℤ a .scale → side ≤ℤ side′ → (side′ +ℤ w′) ≤ℤ (side +ℤ w)
@@ -53,14 +54,16 @@ inside-wider e {c} {b} k i = record {
 }
 
 -- ---- steps outside
+pub idle-past : (f : ℤ → ℤ) {b : Axis} {q w t : ℤ} → Rests b q w t → piece f (past b q w) t (t +ℤ pos 1) ≡ pos 0
+idle-past f {b} {q} {w} {t} r =
+    let g = past b q w in
+    ap (λ x. (f t +ℤ f (t +ℤ pos 1)) *ℤ (x -ℤ g t)) (r .past₁) ∙ ring (f t ∷ f (t +ℤ pos 1) ∷ g t ∷ []) (search read depth 40) tt
+
 pub idle-near-past : {a b : Axis} {p q w t : ℤ} → Rests a p w t ⊎ Rests b q w t → piece (near a p w) (past b q w) t (t +ℤ pos 1) ≡ pos 0
 idle-near-past {a} {b} {p} {q} {w} {t} (inl r) =
     let g = past b q w in
     ap₂ (λ x y. (x +ℤ y) *ℤ (g (t +ℤ pos 1) -ℤ g t)) (r .near₀) (r .near₁) ∙ ring (g (t +ℤ pos 1) ∷ g t ∷ []) (search read depth 40) tt
-idle-near-past {a} {b} {p} {q} {w} {t} (inr r) =
-    let f = near a p w in
-    let g = past b q w in
-    ap (λ x. (f t +ℤ f (t +ℤ pos 1)) *ℤ (x -ℤ g t)) (r .past₁) ∙ ring (f t ∷ f (t +ℤ pos 1) ∷ g t ∷ []) (search read depth 40) tt
+idle-near-past {a} {p = p} {w = w} (inr r) = idle-past (near a p w) r
 
 pub idle-near-near : {a b : Axis} {p q w t : ℤ} → Rests a p w t ⊎ Rests b q w t → piece (near a p w) (near b q w) t (t +ℤ pos 1) ≡ pos 0
 idle-near-near {a} {b} {p} {q} {w} {t} (inl r) =
@@ -89,9 +92,6 @@ no-step-inside {a} {b} {c} {n} sa sb none = record { outside = out }
         go (inl x) (inl y) =
             let l : t + 1 ≤ n = ≤-of-pos k in
             absurd (none (record { step = t; on = omega arith; x = x; y = y }))
-
-idle-zero : (f g : ℤ → ℤ) (n : ℕ) → Idle f g (pos 0) (pos n) → along f g n ≡ pos 0
-idle-zero f g n i = sym (upto-all f g n) ∙ idle-run f g (nonneg 0) (nonneg n) i ∙ upto-zero f g
 
 -- over a walk with a and b for its directions; exchanged, they serve v
 module _ {a b : Axis} {c : Cell} {n : ℕ} (sa : Steady a) (sb : Steady b) (hw : pos 0 ≤ℤ c .width) (none : NoStepInside a b c n) where

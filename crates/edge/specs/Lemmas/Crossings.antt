@@ -1,10 +1,11 @@
 -- The steps of a walk that lie strictly inside a cell are consecutive: from the crossing of one side to that of the other, in both directions at once.
 --
 -- Main results
---   StepsWith                   of n steps, those from first to last are just the ones with a property
+--   StepsWith, steps-beyond     of n steps, those from first to last are just the ones with a property; the others do not have it
 --   strip-steps                 `stripOf` has just the steps strictly between its sides
 --   span-steps                  `span` has just those strictly inside the cell
---   span-low, span-high         and is among the walk's steps
+--   rows-steps                  `rows` has just those strictly in its rows
+--   meet-low, meet-high         both are among the walk's steps
 --   span-inside, inside-span    first < last just where some step lies strictly inside
 use mathlib.Core.Path.{_≡_, refl, subst}
 use mathlib.Core.List.{[], _∷_}
@@ -18,7 +19,7 @@ use Rattle.integers.specs.Order.{≤ℤ-or-<ℤ, ≤ℤ-trans, ≤ℤ-of-≡, a
 use Rattle.integers.specs.Linear.{le, lt, _&_, linear, lin≤, lin<, lin⊥}
 use Rattle.integers.specs.MinMax.{min, max, min-≤ˡ, min-≤ʳ, min-greatest, max-≥ˡ, max-≥ʳ, max-least}
 use Rattle.edge.specs.declared.Axis.{Axis}
-use Rattle.edge.specs.Cuts.{allSteps, noSteps, strip, stripOf, meet, span}
+use Rattle.edge.specs.Cuts.{allSteps, noSteps, strip, stripOf, meet, span, rows}
 use Rattle.edge.specs.declared.Cell.{Cell}
 use Rattle.edge.specs.declared.Span.{Span}
 use Rattle.edge.specs.Lemmas.Ends.{Direction, forward, still, backward, Steady}
@@ -29,6 +30,11 @@ use Rattle.edge.specs.Inside.{Between, SomeStepInside}
 pub record StepsWith (P : ℤ → Type 0) (n : ℤ) (s : Span) : Type 0 where
   pub to : (t : ℤ) → pos 0 ≤ℤ t → (t +ℤ pos 1) ≤ℤ n → P t → (s .first ≤ℤ t) × ((t +ℤ pos 1) ≤ℤ s .last)
   pub from : (t : ℤ) → pos 0 ≤ℤ t → (t +ℤ pos 1) ≤ℤ n → s .first ≤ℤ t → (t +ℤ pos 1) ≤ℤ s .last → P t
+
+pub steps-beyond : {P : ℤ → Type 0} {n : ℤ} {s : Span} → StepsWith P n s
+    → (t : ℤ) → pos 0 ≤ℤ t → (t +ℤ pos 1) ≤ℤ n → ((t +ℤ pos 1) ≤ℤ s .first) ⊎ (s .last ≤ℤ t) → P t → ⊥
+steps-beyond {s = s} p t h j (inl k) i = lin⊥ (t ∷ s .first ∷ []) (le k & le (p .to t h j i .0)) (search linear depth 40) tt
+steps-beyond {s = s} p t h j (inr k) i = lin⊥ (t ∷ s .last ∷ []) (le k & le (p .to t h j i .1)) (search linear depth 40) tt
 
 -- 2 a < 2 b + 1 of whole numbers
 low-of-odd : (a b : ℤ) → (pos 2 *ℤ a) <ℤ (pos 2 *ℤ b +ℤ pos 1) → a ≤ℤ b
@@ -111,24 +117,35 @@ meet-steps {P} {Q} {n} {r} {s} p q = record {
       );
 }
 
+pub meet-low : (r s : Span) (n : ℤ) → pos 0 ≤ℤ meet r s n .first
+meet-low r s n = max-≥ˡ (pos 0) (max (r .first) (s .first))
+
+pub meet-high : (r s : Span) (n : ℤ) → meet r s n .last ≤ℤ n
+meet-high r s n = min-≤ˡ n (min (r .last) (s .last))
+
+pub rows-steps : (b : Axis) → Steady b → (c : Cell) (n : ℤ) → StepsWith (Between b (c .top) (c .width)) n (rows b c n)
+rows-steps b s c n =
+    let y = strip-steps b s (c .top) (c .width) n in
+    record { to = λ t h j i. meet-steps y y .to t h j (i, i); from = λ t h j k l. meet-steps y y .from t h j k l .0 }
+
 module _ (a b : Axis) (sa : Steady a) (sb : Steady b) (c : Cell) where
+  abbrev x-strip : ℤ → Span
+  x-strip n = stripOf a (c .left) (c .width) n
+
+  abbrev y-strip : ℤ → Span
+  y-strip n = stripOf b (c .top) (c .width) n
+
   pub span-steps : (n : ℤ) → StepsWith (λ t. Between a (c .left) (c .width) t × Between b (c .top) (c .width) t) n (span a b c n)
   span-steps n = meet-steps (strip-steps a sa (c .left) (c .width) n) (strip-steps b sb (c .top) (c .width) n)
 
-  pub span-low : (n : ℤ) → pos 0 ≤ℤ span a b c n .first
-  span-low n = max-≥ˡ (pos 0) (max (stripOf a (c .left) (c .width) n .first) (stripOf b (c .top) (c .width) n .first))
-
-  pub span-high : (n : ℤ) → span a b c n .last ≤ℤ n
-  span-high n = min-≤ˡ n (min (stripOf a (c .left) (c .width) n .last) (stripOf b (c .top) (c .width) n .last))
-
   pub span-inside : {n : ℕ} → span a b c (pos n) .first <ℤ span a b c (pos n) .last → SomeStepInside a b c n
-  span-inside {n} h = go (span a b c (pos n) .first) (span-low (pos n)) refl
+  span-inside {n} h = go (span a b c (pos n) .first) (meet-low (x-strip (pos n)) (y-strip (pos n)) (pos n)) refl
     where
       go : (t : ℤ) → pos 0 ≤ℤ t → span a b c (pos n) .first ≡ t → SomeStepInside a b c n
       go (negsuc t) k e = absurd (k .le)
       go (pos t) k e =
           let i : (pos t +ℤ pos 1) ≤ℤ span a b c (pos n) .last = add-one-≤ℤ (subst (λ z. z <ℤ span a b c (pos n) .last) e h) in
-          let j : (pos t +ℤ pos 1) ≤ℤ pos n = ≤ℤ-trans i (span-high (pos n)) in
+          let j : (pos t +ℤ pos 1) ≤ℤ pos n = ≤ℤ-trans i (meet-high (x-strip (pos n)) (y-strip (pos n)) (pos n)) in
           let l : t + 1 ≤ n = ≤-of-pos j in
           let p = span-steps (pos n) .from (pos t) k j (≤ℤ-of-≡ e) i in
           record { step = t; on = omega arith; x = p .0; y = p .1 }

@@ -1,28 +1,31 @@
 -- One direction of a walk between two sides: the held coordinate is linear along it, and the distance to the nearer side is linear up to the middle
--- and from the middle on.
+-- and from the middle on. Beyond the sides the held coordinate rests, so that it is linear between the crossings of both.
 --
 -- Main results
---   ClosedRun                     the walk is between the sides, or on them, from step u to step v
---   past-linear                   there the held coordinate is linear
---   OneHalf, near-linear          and where it does not cross the middle either, so is the distance to the nearer side
---   past-thrice                   at cuts p ≤ u ≤ v ≤ q with the crossings of both sides at u and at v, `past` is linear on all three runs
---   BothLinear, both-linear       at cuts p ≤ u ≤ v ≤ q with the crossing of the middle at u or at v, `past` and `near` are linear on all three runs
+--   ClosedRun, between-run              the walk is between the sides, or on them, from step u to step v: so where its steps are strictly between them
+--   past-linear                         there the held coordinate is linear
+--   OneHalf, near-linear                and where it does not cross the middle either, so is the distance to the nearer side
+--   BesideThrice, besideˡ, besideʳ      at cuts p ≤ u ≤ v ≤ q, with the crossing of a line at u or at v, each of the three runs is on one side of it
+--   past-closed, near-thrice            in a closed run cut at the crossing of the middle, `past` and `near` are linear on all three runs
+--   past-thrice                         in any run cut at the crossings of both sides, so is `past`
 use mathlib.Core.Path.{_≡_, _∙_, ap, subst}
 use mathlib.Core.List.{[], _∷_}
 use mathlib.Core.Logic.{_⊎_, inl, inr}
 use lib.IntN.{ℤ, pos, negℤ, _+ℤ_, _-ℤ_, _*ℤ_}
 use lib.Signed.{_≤ℤ_, _<ℤ_, ≤ℤ-refl}
 use Rattle.integers.specs.Ring.{read, ring}
-use Rattle.integers.specs.Order.{≤ℤ-or-<ℤ, ≤ℤ-trans, ≤ℤ-of-<ℤ}
-use Rattle.integers.specs.Linear.{le, lt, eq, _&_, none!, linear, lin≤, lin≡}
+use Rattle.integers.specs.Order.{≤ℤ-or-<ℤ, ≤ℤ-trans, ≤ℤ-of-<ℤ, add-one-≤ℤ}
+use Rattle.integers.specs.Linear.{le, lt, eq, _&_, linear, lin≤, lin≡}
 use Rattle.integers.specs.MinMax.{min, max, min-eqˡ, min-eqʳ, min-≤ˡ, min-≤ʳ, min-greatest, max-≥ˡ, max-≥ʳ, max-least}
 use Rattle.integers.specs.Clamp.{clamp, clamp-low, clamp-high, clamp-below, clamp-inside, clamp-above}
 use Rattle.integers.specs.Tent.{tent-inside}
 use Rattle.edge.specs.declared.Axis.{Axis}
 use Rattle.edge.specs.Walk.{beyond, past, near}
-use Rattle.edge.specs.Lemmas.Ends.{Direction, forward, still, backward, Steady}
+use Rattle.edge.specs.Inside.{Between}
+use Rattle.edge.specs.Lemmas.Ends.{Direction, forward, still, backward, Steady, steady-within}
+use Rattle.edge.specs.Lemmas.Steps.{between-ends}
 use Rattle.edge.specs.Code.{Closed}
-use Rattle.edge.specs.Lemmas.Runs.{LinearOn, LinearThrice}
+use Rattle.edge.specs.Lemmas.Runs.{LinearOn, LinearThrice, Ordered}
 use Rattle.edge.specs.Cuts.{toMiddle}
 
 -- ---- linear runs
@@ -36,6 +39,18 @@ linear-point f {u} {v} h = record {
 -- the walk is between the sides, or on them, from u to v
 pub record ClosedRun (a : Axis) (side w u v : ℤ) : Type 0 where
   pub at : (t : ℤ) → u ≤ℤ t → t ≤ℤ v → Closed a side w t
+
+-- the last step ends at q
+pub between-run : (a : Axis) → Steady a → (side w : ℤ) {p q : ℤ} → p <ℤ q → ((t : ℤ) → p ≤ℤ t → (t +ℤ pos 1) ≤ℤ q → Between a side w t)
+    → ClosedRun a side w p q
+between-run a s side w {p} {q} some between = record { at = λ t h j. go t h j (≤ℤ-or-<ℤ q t) }
+  where
+    go : (t : ℤ) → p ≤ℤ t → t ≤ℤ q → (q ≤ℤ t) ⊎ (t <ℤ q) → Closed a side w t
+    go t h j (inr i) = between-ends a side w t (steady-within s) (between t h (add-one-≤ℤ i)) .0
+    go t h j (inl i) =
+        let b = between (t -ℤ pos 1) (lin≤ (t ∷ p ∷ q ∷ []) (le i & lt some) (search linear depth 40) tt) (lin≤ (t ∷ q ∷ []) (le j) (search linear depth 40) tt) in
+        let e : t -ℤ pos 1 +ℤ pos 1 ≡ t = ring (t ∷ []) (search read depth 40) tt in
+        subst (Closed a side w) e (between-ends a side w (t -ℤ pos 1) (steady-within s) b .1)
 
 pub past-linear : {a : Axis} {side w u v : ℤ} → ClosedRun a side w u v → LinearOn (past a side w) u v
 past-linear {a} {side} {w} r = record {
@@ -81,7 +96,7 @@ one-half k x side half {s} {u} {v} still h = go (≤ℤ-or-<ℤ (k *ℤ (x -ℤ 
     go (inr g) = behind (λ t i j. lin≤ (k ∷ x ∷ side ∷ half ∷ t ∷ []) (lt g) (search linear depth 40) tt)
 
 -- a run on one side of m, which is M held between p and q, is on one side of M, or a single step
-data Beside (M u v : ℤ) : Type 0 where
+pub data Beside (M u v : ℤ) : Type 0 where
   short : v ≤ℤ M → Beside M u v
   beyond-it : M ≤ℤ u → Beside M u v
   single : v ≤ℤ u → Beside M u v
@@ -100,110 +115,102 @@ beside M p q {u} {v} pq pu vq (inr h) = go (≤ℤ-or-<ℤ M u) (≤ℤ-or-<ℤ 
     go (inr i) (inl j) = single (≤ℤ-trans vq (subst (λ z. z ≤ℤ u) (clamp-above pq j) h))
     go (inr i) (inr j) = beyond-it (subst (λ z. z ≤ℤ u) (clamp-inside (≤ℤ-trans pu (≤ℤ-of-<ℤ i)) (≤ℤ-of-<ℤ j)) h)
 
-near-linear-beside : (a : Axis) → Steady a → (side half : ℤ) {w u v : ℤ} → w ≡ half +ℤ half → ClosedRun a side w u v → Beside (toMiddle a side half) u v → LinearOn (near a side w) u v
-near-linear-beside a s side half {w} e r (short h) = near-linear a side half e r (one-half (a .scale) (a .start) side half (s .signed) (inl h))
-near-linear-beside a s side half {w} e r (beyond-it h) = near-linear a side half e r (one-half (a .scale) (a .start) side half (s .signed) (inr h))
-near-linear-beside a s side half {w} e r (single h) = linear-point (near a side w) h
+-- ---- three runs, cut where the walk crosses one line or another
+pub record BesideThrice (M p u v q : ℤ) : Type 0 where
+  pub first : Beside M p u
+  pub second : Beside M u v
+  pub third : Beside M v q
 
-past-one-side : (a : Axis) (side : ℤ) {w u v : ℤ} → pos 0 ≤ℤ (a .scale *ℤ w)
-    → OneHalf a side (pos 0) u v → OneHalf a side w u v ⊎ (v ≤ℤ u) → LinearOn (past a side w) u v
-past-one-side a side {w} h x (inr y) = linear-point (past a side w) y
-past-one-side a side {w} h (before f) (inl y) = record {
-  offset = pos 0;
-  slope = pos 0;
-  line = λ t i j.
-      clamp-below (a .scale *ℤ w) (lin≤ (a .scale ∷ a .start ∷ a .sign ∷ side ∷ t ∷ []) (le (f t i j)) (search linear depth 40) tt)
-      ∙ ring (t ∷ []) (search read depth 40) tt;
-}
-past-one-side a side {w} h (behind f) (inl (before g)) = record {
-  offset = a .scale *ℤ (a .start -ℤ side);
-  slope = a .sign;
-  line = λ t i j. clamp-inside (lin≤ (a .scale ∷ a .start ∷ a .sign ∷ side ∷ t ∷ []) (le (f t i j)) (search linear depth 40) tt) (g t i j);
-}
-past-one-side a side {w} h (behind f) (inl (behind g)) = record {
-  offset = a .scale *ℤ w;
-  slope = pos 0;
-  line = λ t i j. clamp-above h (g t i j) ∙ ring (a .scale ∷ w ∷ t ∷ []) (search read depth 40) tt;
-}
+-- the cuts are at L and at R, held between p and q, in their order
+module _ (L R : ℤ) {p q : ℤ} (pq : p ≤ℤ q) where
+  abbrev l : ℤ
+  l = clamp L p q
 
--- ---- anywhere, cut where the walk crosses the two sides, which are the middles of half widths 0 and w
+  abbrev r : ℤ
+  r = clamp R p q
+
+  -- a crossing M whose held step is one of the two cuts
+  at-a-cut : (M : ℤ) → min l r ≤ℤ clamp M p q → clamp M p q ≤ℤ max l r → (max l r ≤ℤ clamp M p q) ⊎ (clamp M p q ≤ℤ min l r)
+      → BesideThrice M p (min l r) (max l r) q
+  at-a-cut M h k m =
+      let p≤u = min-greatest (clamp-low L p q) (clamp-low R p q) in
+      let v≤q = max-least (clamp-high pq L) (clamp-high pq R) in
+      record {
+        first = beside M p q pq (≤ℤ-refl p) (≤ℤ-trans h (clamp-high pq M)) (inl h);
+        second = beside M p q pq p≤u v≤q m;
+        third = beside M p q pq (≤ℤ-trans (clamp-low M p q) k) (≤ℤ-refl q) (inr k);
+      }
+
+  pub besideˡ : BesideThrice L p (min l r) (max l r) q
+  besideˡ = at-a-cut L (min-≤ˡ l r) (max-≥ˡ l r) (go (≤ℤ-or-<ℤ l r))
+    where
+      go : (l ≤ℤ r) ⊎ (r <ℤ l) → (max l r ≤ℤ l) ⊎ (l ≤ℤ min l r)
+      go (inl i) = inr (min-greatest (≤ℤ-refl l) i)
+      go (inr i) = inl (max-least (≤ℤ-refl l) (≤ℤ-of-<ℤ i))
+
+  pub besideʳ : BesideThrice R p (min l r) (max l r) q
+  besideʳ = at-a-cut R (min-≤ʳ l r) (max-≥ʳ l r) (go (≤ℤ-or-<ℤ l r))
+    where
+      go : (l ≤ℤ r) ⊎ (r <ℤ l) → (max l r ≤ℤ r) ⊎ (r ≤ℤ min l r)
+      go (inl i) = inl (max-least i (≤ℤ-refl r))
+      go (inr i) = inr (min-greatest (≤ℤ-of-<ℤ i) (≤ℤ-refl r))
+
 -- a run beside a crossing is on one side of it, or a single step
 side-of : (a : Axis) → Steady a → (side half : ℤ) {u v : ℤ} → Beside (toMiddle a side half) u v → OneHalf a side half u v ⊎ (v ≤ℤ u)
 side-of a s side half (short z) = inl (one-half (a .scale) (a .start) side half (s .signed) (inl z))
 side-of a s side half (beyond-it z) = inl (one-half (a .scale) (a .start) side half (s .signed) (inr z))
 side-of a s side half (single z) = inr z
 
-past-linear-beside : (a : Axis) → Steady a → (side w : ℤ) {u v : ℤ} → pos 0 ≤ℤ (a .scale *ℤ w)
-    → Beside (toMiddle a side (pos 0)) u v → Beside (toMiddle a side w) u v → LinearOn (past a side w) u v
-past-linear-beside a s side w {u} {v} h x y = go (side-of a s side (pos 0) x)
-  where
-    go : OneHalf a side (pos 0) u v ⊎ (v ≤ℤ u) → LinearOn (past a side w) u v
-    go (inl z) = past-one-side a side h z (side-of a s side w y)
-    go (inr z) = linear-point (past a side w) z
+-- ---- between the sides, cut where the walk crosses the middle
+module _ {a : Axis} {side w p u v q n : ℤ} (r : ClosedRun a side w p q) (o : Ordered p u v q n) where
+  r₁ : ClosedRun a side w p u
+  r₁ = record { at = λ t i j. r .at t i (≤ℤ-trans j (≤ℤ-trans (o .b≥a) (o .q≥b))) }
 
-pub past-thrice : (a : Axis) → Steady a → (side w : ℤ) {p q : ℤ} → pos 0 ≤ℤ (a .scale *ℤ w) → p ≤ℤ q
-    → LinearThrice (past a side w) p (min (clamp (toMiddle a side (pos 0)) p q) (clamp (toMiddle a side w) p q))
-    (max (clamp (toMiddle a side (pos 0)) p q) (clamp (toMiddle a side w) p q)) q
-past-thrice a s side w {p} {q} h pq = record {
-  first = past-linear-beside a s side w h (beside L p q pq (≤ℤ-refl p) u≤q (inl (min-≤ˡ l r))) (beside R p q pq (≤ℤ-refl p) u≤q (inl (min-≤ʳ l r)));
-  second = past-linear-beside a s side w h (beside L p q pq p≤u v≤q (middle (≤ℤ-or-<ℤ l r))) (beside R p q pq p≤u v≤q (other (≤ℤ-or-<ℤ l r)));
-  third = past-linear-beside a s side w h (beside L p q pq p≤v (≤ℤ-refl q) (inr (max-≥ˡ l r))) (beside R p q pq p≤v (≤ℤ-refl q) (inr (max-≥ʳ l r)));
+  r₂ : ClosedRun a side w u v
+  r₂ = record { at = λ t i j. r .at t (≤ℤ-trans (o .a≥p) i) (≤ℤ-trans j (o .q≥b)) }
+
+  r₃ : ClosedRun a side w v q
+  r₃ = record { at = λ t i j. r .at t (≤ℤ-trans (≤ℤ-trans (o .a≥p) (o .b≥a)) i) j }
+
+  pub past-closed : LinearThrice (past a side w) p u v q
+  past-closed = record { first = past-linear r₁; second = past-linear r₂; third = past-linear r₃ }
+
+  pub near-thrice : Steady a → (half : ℤ) → w ≡ half +ℤ half → BesideThrice (toMiddle a side half) p u v q → LinearThrice (near a side w) p u v q
+  near-thrice s half e b = record { first = run r₁ (b .first); second = run r₂ (b .second); third = run r₃ (b .third) }
+    where
+      run : {x y : ℤ} → ClosedRun a side w x y → Beside (toMiddle a side half) x y → LinearOn (near a side w) x y
+      run {x} {y} c d = go (side-of a s side half d)
+        where
+          go : OneHalf a side half x y ⊎ (y ≤ℤ x) → LinearOn (near a side w) x y
+          go (inl h) = near-linear a side half e c h
+          go (inr h) = linear-point (near a side w) h
+
+-- ---- anywhere, cut where the walk crosses the two sides, which are the middles of half widths 0 and w
+past-one-side : (a : Axis) (side : ℤ) {w u v : ℤ} → pos 0 ≤ℤ (a .scale *ℤ w)
+    → OneHalf a side (pos 0) u v ⊎ (v ≤ℤ u) → OneHalf a side w u v ⊎ (v ≤ℤ u) → LinearOn (past a side w) u v
+past-one-side a side {w} h (inr x) y = linear-point (past a side w) x
+past-one-side a side {w} h (inl x) (inr y) = linear-point (past a side w) y
+past-one-side a side {w} h (inl (before f)) (inl y) = record {
+  offset = pos 0;
+  slope = pos 0;
+  line = λ t i j.
+      clamp-below (a .scale *ℤ w) (lin≤ (a .scale ∷ a .start ∷ a .sign ∷ side ∷ t ∷ []) (le (f t i j)) (search linear depth 40) tt)
+      ∙ ring (t ∷ []) (search read depth 40) tt;
 }
-  where
-    L : ℤ
-    L = toMiddle a side (pos 0)
-
-    R : ℤ
-    R = toMiddle a side w
-
-    l : ℤ
-    l = clamp L p q
-
-    r : ℤ
-    r = clamp R p q
-
-    p≤u : p ≤ℤ min l r
-    p≤u = min-greatest (clamp-low L p q) (clamp-low R p q)
-
-    v≤q : max l r ≤ℤ q
-    v≤q = max-least (clamp-high pq L) (clamp-high pq R)
-
-    u≤q : min l r ≤ℤ q
-    u≤q = ≤ℤ-trans (min-≤ˡ l r) (clamp-high pq L)
-
-    p≤v : p ≤ℤ max l r
-    p≤v = ≤ℤ-trans (clamp-low L p q) (max-≥ˡ l r)
-
-    middle : (l ≤ℤ r) ⊎ (r <ℤ l) → (max l r ≤ℤ l) ⊎ (l ≤ℤ min l r)
-    middle (inl i) = inr (min-greatest (≤ℤ-refl l) i)
-    middle (inr i) = inl (max-least (≤ℤ-refl l) (≤ℤ-of-<ℤ i))
-
-    other : (l ≤ℤ r) ⊎ (r <ℤ l) → (max l r ≤ℤ r) ⊎ (r ≤ℤ min l r)
-    other (inl i) = inl (max-least i (≤ℤ-refl r))
-    other (inr i) = inr (min-greatest (≤ℤ-of-<ℤ i) (≤ℤ-refl r))
-
--- ---- one direction, at four cuts of which the middle two are m and another in their order
-pub record BothLinear (a : Axis) (side w p u v q : ℤ) : Type 0 where
-  pub whole : LinearThrice (past a side w) p u v q
-  pub tented : LinearThrice (near a side w) p u v q
-
-pub both-linear : (a : Axis) → Steady a → (side half : ℤ) {w p u v q : ℤ} → w ≡ half +ℤ half → p ≤ℤ q → p ≤ℤ u → u ≤ℤ v → v ≤ℤ q → ClosedRun a side w p q
-    → u ≤ℤ clamp (toMiddle a side half) p q → clamp (toMiddle a side half) p q ≤ℤ v → (v ≤ℤ clamp (toMiddle a side half) p q) ⊎ (clamp (toMiddle a side half) p q ≤ℤ u)
-    → BothLinear a side w p u v q
-both-linear a s side half {w} {p} {u} {v} {q} e pq pu uv vq r um mv m = record {
-  whole = record { first = past-linear r₁; second = past-linear r₂; third = past-linear r₃ };
-  tented = record {
-    first = near-linear-beside a s side half e r₁ (beside (toMiddle a side half) p q pq (lin≤ (p ∷ []) none! (search linear depth 40) tt) (≤ℤ-trans uv vq) (inl um));
-    second = near-linear-beside a s side half e r₂ (beside (toMiddle a side half) p q pq pu vq m);
-    third = near-linear-beside a s side half e r₃ (beside (toMiddle a side half) p q pq (≤ℤ-trans pu uv) (lin≤ (q ∷ []) none! (search linear depth 40) tt) (inr mv));
-  };
+past-one-side a side {w} h (inl (behind f)) (inl (before g)) = record {
+  offset = a .scale *ℤ (a .start -ℤ side);
+  slope = a .sign;
+  line = λ t i j. clamp-inside (lin≤ (a .scale ∷ a .start ∷ a .sign ∷ side ∷ t ∷ []) (le (f t i j)) (search linear depth 40) tt) (g t i j);
 }
+past-one-side a side {w} h (inl (behind f)) (inl (behind g)) = record {
+  offset = a .scale *ℤ w;
+  slope = pos 0;
+  line = λ t i j. clamp-above h (g t i j) ∙ ring (a .scale ∷ w ∷ t ∷ []) (search read depth 40) tt;
+}
+
+pub past-thrice : (a : Axis) → Steady a → (side w : ℤ) {p u v q : ℤ} → pos 0 ≤ℤ (a .scale *ℤ w)
+    → BesideThrice (toMiddle a side (pos 0)) p u v q → BesideThrice (toMiddle a side w) p u v q → LinearThrice (past a side w) p u v q
+past-thrice a s side w h x y = record { first = run (x .first) (y .first); second = run (x .second) (y .second); third = run (x .third) (y .third) }
   where
-    r₁ : ClosedRun a side w p u
-    r₁ = record { at = λ t i j. r .at t i (≤ℤ-trans j (≤ℤ-trans uv vq)) }
-
-    r₂ : ClosedRun a side w u v
-    r₂ = record { at = λ t i j. r .at t (≤ℤ-trans pu i) (≤ℤ-trans j vq) }
-
-    r₃ : ClosedRun a side w v q
-    r₃ = record { at = λ t i j. r .at t (≤ℤ-trans (≤ℤ-trans pu uv) i) j }
+    run : {u v : ℤ} → Beside (toMiddle a side (pos 0)) u v → Beside (toMiddle a side w) u v → LinearOn (past a side w) u v
+    run b c = past-one-side a side h (side-of a s side (pos 0) b) (side-of a s side w c)

@@ -3,12 +3,13 @@
 -- Main results
 --   piece, three                  what a linear run adds; three of them
 --   LinearOn, LinearThrice        a function is linear on a run, on three
---   Idle, Ordered                 steps that add nothing; steps in order
+--   Idle                          steps that add nothing
+--   Ordered, cuts-ordered         steps in order; so are the cuts of a run from p to q
 --   upto, upto-zero, upto-all     the integral of f dg up to step z, a whole number that is not negative
---   idle-run                      nothing is added from a to b
+--   idle-run, idle-zero           nothing is added from a to b, or at all
 --   linear-run                    the piece law: (f(a) + f(b)) × (g(b) − g(a)) is added from a to b
 --   three-pieces                  nothing up to p and from q on, and three linear runs between
-use mathlib.Core.Path.{_≡_, refl, _∙_, ap, subst⁻¹}
+use mathlib.Core.Path.{_≡_, refl, sym, _∙_, ap, subst⁻¹}
 use mathlib.Core.List.{[], _∷_}
 use Prim.Native.Nat.{ℕ, zero, suc, _+_}
 use native.Mathlib.Nat.{add-suc, add-zero}
@@ -19,6 +20,8 @@ use lib.Signed.{_≤ℤ_}
 use Rattle.integers.specs.Ring.{read, ring, comb, _⊕_}
 use Rattle.integers.specs.Order.{≤ℤ-gap, pos-≤ℤ, nonneg, ≤ℤ-trans}
 use Rattle.integers.specs.Linear.{le, linear, lin≤}
+use Rattle.integers.specs.MinMax.{min, max, min-≤ˡ, min-greatest, max-≥ˡ, max-least}
+use Rattle.integers.specs.Clamp.{clamp, clamp-low, clamp-high}
 use Rattle.integers.specs.Trapezoid.{S-zero, S-suc, S-piece, Affine}
 use Rattle.edge.specs.Integrals.{along}
 
@@ -68,6 +71,9 @@ pub idle-run : (f g : ℤ → ℤ) {a b : ℤ} → pos 0 ≤ℤ a → a ≤ℤ b
 unfolding upto
 idle-run f g = by-naturals (λ a b. Idle f g a b → along f g (natAbs b) ≡ along f g (natAbs a)) (idle-ℕ f g)
 
+pub idle-zero : (f g : ℤ → ℤ) (n : ℕ) → Idle f g (pos 0) (pos n) → along f g n ≡ pos 0
+idle-zero f g n i = sym (upto-all f g n) ∙ idle-run f g (nonneg 0) (nonneg n) i ∙ upto-zero f g
+
 affine : {f : ℤ → ℤ} (m n : ℕ) (l : LinearOn f (pos m) (pos (m + n))) → Affine (λ t. f (pos (m + t))) (l .offset +ℤ l .slope *ℤ pos m) (l .slope) n
 affine {f} m n l = record {
   at = λ t h. l .line (pos (m + t)) (pos-≤ℤ (omega arith)) (pos-≤ℤ (omega arith)) ∙ ring (l .offset ∷ l .slope ∷ pos m ∷ pos t ∷ []) (search read depth 40) tt;
@@ -90,6 +96,16 @@ pub record Ordered (p a b q n : ℤ) : Type 0 where
   pub b≥a : a ≤ℤ b
   pub q≥b : b ≤ℤ q
   pub n≥q : q ≤ℤ n
+
+pub cuts-ordered : (x y : ℤ) {p q n : ℤ} → pos 0 ≤ℤ p → p ≤ℤ q → q ≤ℤ n
+    → Ordered p (min (clamp x p q) (clamp y p q)) (max (clamp x p q) (clamp y p q)) q n
+cuts-ordered x y {p} {q} h k j = record {
+  p≥0 = h;
+  a≥p = min-greatest (clamp-low x p q) (clamp-low y p q);
+  b≥a = ≤ℤ-trans (min-≤ˡ (clamp x p q) (clamp y p q)) (max-≥ˡ (clamp x p q) (clamp y p q));
+  q≥b = max-least (clamp-high k x) (clamp-high k y);
+  n≥q = j;
+}
 
 pub record LinearThrice (f : ℤ → ℤ) (p a b q : ℤ) : Type 0 where
   pub first : LinearOn f p a
