@@ -3,7 +3,7 @@
 -- Main results
 --   x-room, y-room                  each direction of the walk
 --   narrower-room, half-room        for a smaller width, as half of it is
---   back-room                       for numbers that are read back
+--   back-room, rooms                for numbers that are read back; of a walk, as `search` finds it
 --   steps-within                    the number of steps
 --   divisor-pos, divisor-within     what the numerators are divided by
 use mathlib.Core.Path.{_≡_, sym, _∙_, ap, subst⁻¹}
@@ -29,8 +29,8 @@ use Rattle.edge.specs.Octilinear.{unitSteps}
 use Rattle.edge.specs.Room.{coordinateLimit, extentLimit, crossingLimit, Measured, Room}
 use Rattle.edge.specs.Code.{AxisRoom}
 use Rattle.edge.specs.WalkOf.{IsWalk, fine, unit}
-use Rattle.integers.specs.Bits.{back}
-use Rattle.edge.proofs.Sizes.{difference, extent-within, width≥0, width-high}
+use Rattle.integers.specs.Bits.{back, back-is, fits-within}
+use Rattle.edge.proofs.Sizes.{difference, extent-within, width≥0, width-high, width-within}
 
 -- ---- one direction
 extent-range : {p q : ℤ} → Within (pos coordinateLimit) p → Within (pos coordinateLimit) q → Within (pos extentLimit) (pos (extent (q -ℤ p)))
@@ -85,6 +85,20 @@ half-room {w = w} {half} e h r = narrower-room h (lin≤ (half ∷ w ∷ []) (eq
 
 pub back-room : {a : Axis} {side w : ℤ} → SFits w64 side → SFits w64 w → AxisRoom a side w → AxisRoom a (back side) (back w)
 back-room {a} {side} {w} f g r = subst⁻¹ (λ z. AxisRoom a z (back w)) (toZ-ofZ f) (subst⁻¹ (AxisRoom a side) (toZ-ofZ g) r)
+
+module _ {w : Walk} {c : Cell} (k : IsWalk w) (r : Room (w .edge) c) where
+  pub x-room-back : AxisRoom (w .x) (back (c .left)) (back (c .width))
+  x-room-back = back-room (fits-within tt (r .left)) (fits-within tt (width-within r)) (x-room k r)
+
+  pub y-room-back : AxisRoom (w .y) (back (c .top)) (back (c .width))
+  y-room-back = back-room (fits-within tt (r .top)) (fits-within tt (width-within r)) (y-room k r)
+
+  -- for a width of 0
+  pub x-side-back : AxisRoom (w .x) (back (c .left)) (pos 0)
+  x-side-back = subst⁻¹ (λ z. AxisRoom (w .x) z (pos 0)) (back-is tt (r .left)) (narrower-room (nonneg 0) (width≥0 r) (x-room k r))
+
+-- What a call asks of one direction. Where it is handed the other one, what is refused is what the caller says of the answer.
+pub ruleset rooms = (x-room-back, y-room-back, x-side-back)
 
 -- ---- the steps
 pub steps-within : {w : Walk} → IsWalk w → Measured (w .edge) → Within (pos crossingLimit) (w .steps)

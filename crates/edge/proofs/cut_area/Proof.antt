@@ -3,31 +3,25 @@ use mathlib.Core.Path.{_≡_, _∙_, ap, ap₂, subst, subst⁻¹}
 use lib.IntN.{pos, natAbs}
 use lib.Signed.{_<ℤ_}
 use borrow.Author.Needs.{needs}
-use Rattle.integers.specs.Order.{nonneg}
 use Rattle.integers.specs.Rounding.{roundHalfAway}
-use Rattle.integers.specs.Bits.{back-is, fits-within, result-is}
+use Rattle.integers.specs.Bits.{back-is, result-is}
 use Rattle.edge.specs.declared.Span.{Span}
 use Rattle.edge.specs.Cuts.{rows, toMiddle, sideCuts}
 use Rattle.edge.specs.Room.{crossingLimit}
 use Rattle.edge.specs.Lemmas.Records.{cuts-at-eq}
-use Rattle.edge.specs.Code.{AxisRoom, SamplesWithin, SamplesClosed, areaAt}
+use Rattle.edge.specs.Code.{SamplesWithin, SamplesClosed, areaAt}
 use Rattle.edge.proofs.Sizes.{width≥0, width-within}
-use Rattle.edge.proofs.WalkRoom.{x-room, y-room, narrower-room, back-room, steps-within, divisor-pos, divisor-within}
+use Rattle.edge.proofs.WalkRoom.{x-room, y-room, rooms, steps-within, divisor-pos, divisor-within}
 use Rattle.edge.proofs.CutForm.{ordered-within}
 use Rattle.edge.proofs.AreaForm.{InRows, cut-area, cuts-in-rows}
 use Rattle.edge.proofs.cut_area.Statement.{statement}
 use Rattle.edge.proofs.cut_area.Tie as tie
 
 middle-of-requires : tie.Need-middle-of-requires
-middle-of-requires c κs =
-    let p = c .before .pre in
-    let r = x-room (p .0) (p .1) in
-    subst⁻¹ (λ z. AxisRoom (c .before .args .w .x) z (pos 0)) (back-is tt (p .1 .left)) (narrower-room (nonneg 0) (r .width) r)
+middle-of-requires c κs = search (needs, rooms)
 
 middle-of-requires-2 : tie.Need-middle-of-requires-2
-middle-of-requires-2 c κs =
-    let p = c .before .before .before .before .pre in
-    back-room (fits-within tt (p .1 .left)) (fits-within tt (width-within (p .1))) (x-room (p .0) (p .1))
+middle-of-requires-2 c κs = search (needs, rooms)
 
 cuts-of-requires : tie.Need-cuts-of-requires
 cuts-of-requires c κs = search needs

@@ -3,7 +3,7 @@ use mathlib.Core.Path.{_≡_, _∙_, sym, ap, ap₂}
 use lib.IntN.{pos, natAbs}
 use borrow.Author.Needs.{needs}
 use mir.Syntax.{w64}
-use mir.Val.{toZ}
+use mir.Val.{toZ, ofZ}
 use mir.Facts.{toZ-ofZ}
 use Rattle.integers.specs.Rounding.{roundHalfAway}
 use Rattle.integers.specs.RoundHalfAway.{roundHalfAway-one}
@@ -17,7 +17,8 @@ div-round-half-away-requires c κs = search needs
 returns : tie.Need-returns
 returns c =
     let s = c .before in
-    let e : s .args .n ≡ pos 1 = sym (toZ-ofZ (s .fits .n)) ∙ ap (toZ w64) (c .if1 .taken) in
+    let bits : ofZ w64 (s .args .n) ≡ 1 = search sym in
+    let e : s .args .n ≡ pos 1 = sym (toZ-ofZ (s .fits .n)) ∙ ap (toZ w64) bits in
     toZ-ofZ (s .fits .m) ∙ sym (roundHalfAway-one (s .args .m)) ∙ ap (λ y. roundHalfAway (s .args .m) (natAbs y)) (sym e)
 
 returns-2 : tie.Need-returns-2

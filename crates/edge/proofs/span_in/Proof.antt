@@ -2,21 +2,17 @@
 use mathlib.Core.Path.{_∙_}
 use borrow.Author.Needs.{needs}
 use Rattle.edge.specs.Lemmas.Records.{strip-of-eq, meet-eq}
-use Rattle.integers.specs.Bits.{back-is, fits-within}
+use Rattle.integers.specs.Bits.{back-is}
 use Rattle.edge.proofs.Sizes.{width-within}
-use Rattle.edge.proofs.WalkRoom.{x-room, y-room, back-room, steps-within}
+use Rattle.edge.proofs.WalkRoom.{rooms, steps-within}
 use Rattle.edge.proofs.span_in.Statement.{statement}
 use Rattle.edge.proofs.span_in.Tie as tie
 
 strip-of-requires : tie.Need-strip-of-requires
-strip-of-requires c κs =
-    let p = c .before .before .before .pre in
-    back-room (fits-within tt (p .1 .left)) (fits-within tt (width-within (p .1))) (x-room (p .0) (p .1))
+strip-of-requires c κs = search (needs, rooms)
 
 strip-of-requires-2 : tie.Need-strip-of-requires-2
-strip-of-requires-2 c κs =
-    let p = c .before .before .before .before .before .before .pre in
-    back-room (fits-within tt (p .1 .top)) (fits-within tt (width-within (p .1))) (y-room (p .0) (p .1))
+strip-of-requires-2 c κs = search (needs, rooms)
 
 meet-requires : tie.Need-meet-requires
 meet-requires c κs = search needs
