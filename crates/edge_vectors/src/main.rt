@@ -1,5 +1,5 @@
 // Runs the code of `edge` as it is compiled. A case is a line of standard input: an edge, and a cell by its left and top side and half its width. For
-// each it prints h, v and d, rounded, and `in` where some part of the edge lies strictly inside the cell, else `out`; or `out of range`.
+// each it prints h, v and d and the area, each rounded, and `in` where some part of the edge lies strictly inside the cell, else `out`; or `out of range`.
 //
 // `stdin` has the cases, each kind under a comment, and `stdout` what must be printed, as `answers` of rust/ makes it.
 ghost use lib.IntN.{pos};
@@ -10,6 +10,7 @@ ghost use Rattle.edge_vectors.specs.Ready.{Shows, PointInRange, HalfWidt
 use edge::Cell;
 use edge::Edge;
 use edge::Walk;
+use edge::area_in;
 use edge::comes_inside;
 use edge::details_in;
 use edge::walk_of;
@@ -89,6 +90,7 @@ fn print_case(w: Walk, c: Cell)
     decimal(r.h);
     number(r.v);
     number(r.d);
+    number(area_in(w, c));
     if comes_inside(w, c) {
         words(b" in\n");
     } else {

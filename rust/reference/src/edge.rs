@@ -188,6 +188,16 @@ impl Edge {
         [upper + lower, v_sign * exchanged, upper - lower].map(|num| Fraction { num, den })
     }
 
+    /// The edge's exact part of a cell's area: "as y runs along it, take how
+    /// far x lies past the cell's left side, held between 0 and the cell's
+    /// width; sum that over the y that lie in the cell's rows, with the sign of
+    /// the edge's run in y; ... double it."
+    pub fn area(self, cell: Cell) -> Fraction {
+        let past_left = Profile::past_left(cell.left, cell.width);
+        let num = self.twice_integral(&past_left, cell.top, cell.top + cell.width);
+        Fraction { num, den: self.denominator() }
+    }
+
     /// Whether some part of the edge "lies strictly inside" a cell, as 02 says
     /// it. It does unless a line parts the two, along a side of the cell or
     /// along the edge: a cell without its sides and an edge are convex.
@@ -309,10 +319,7 @@ mod tests {
 
             let past_left = |x: i64, s: i64| (x - left * s).clamp(0, width * s);
             let area = by_slices(edge, top, bottom, past_left);
-            let stretch = edge.between(top, bottom);
-            let f = Profile::past_left(left, width);
-            let num = stretch.map_or(0, |stretch| stretch.twice_integral(&f));
-            let den = edge.denominator();
+            let Fraction { num, den } = edge.area(cell);
             assert!(same(Fraction { num, den }, area), "area of {edge:?} in {cell:?}");
             fractions += usize::from(num % den != 0);
 

@@ -5,8 +5,9 @@
 //! on wrong-handed tracing, a second time, in plain Rust and by another method
 //! than the product, so that the two can be compared on any input. It is written
 //! to be read: nothing here is tuned beyond what running it on many thousands of
-//! outlines needs. (The stored answers also take a count from P2, and from P12
-//! when an edge comes inside a cell.)
+//! outlines needs. (The stored answers also take a count from P2, from P5 that
+//! an edge's area is rounded on its own, and from P12 when an edge comes inside a
+//! cell.)
 //!
 //! # How areas are worked out
 //!

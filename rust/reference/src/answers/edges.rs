@@ -1,8 +1,8 @@
 //! `edge_vectors`: an edge's values in a cell. A case is seven numbers, the
 //! edge's x0, y0, x1 and y1, the cell's left and upper side and half its width.
-//! Its answer is h, v and d, rounded, and `in` where the edge comes inside the
-//! cell, else `out`; or `out of range`, where the program has no room for the
-//! numbers.
+//! Its answer is h, v and d and the area, each rounded, and `in` where the edge
+//! comes inside the cell, else `out`; or `out of range`, where the program has
+//! no room for the numbers.
 
 use super::lines;
 use crate::edge::{Cell, Edge};
@@ -41,6 +41,7 @@ fn read(numbers: [i128; 7]) -> Option<(Edge, Cell)> {
 
 fn values(edge: Edge, cell: Cell) -> String {
     let [h, v, d] = edge.details(&Spec, cell).map(|value| Spec.round(value));
+    let area = Spec.round(edge.area(cell));
     let place = if edge.comes_inside(cell) { "in" } else { "out" };
-    format!("{h} {v} {d} {place}\n")
+    format!("{h} {v} {d} {area} {place}\n")
 }
