@@ -131,7 +131,15 @@ pub fn put(
     ensures { λ _. ⌜ HoldsOneMore (putting side (now (points .entry)) count placement) (tileOf (now (table .entry)) (now (edges .entry))) (tileOf (now (table .exit)) (now (edges .exit))) ⌝ }
     ensures { λ _. ⌜ now (points .exit) ≡ now (points .entry) ⌝ }
 {
-    correct(Site::Alone(side), Change::Put, points, count, placement, edges, table)
+    correct(
+        Site::Alone(side),
+        Change::Put,
+        points,
+        count,
+        placement,
+        edges,
+        table,
+    )
 }
 
 // Takes a contour out of a tile again: as `put`, with its values taken from the table and its count from the record. Whether the contour is in cannot be
@@ -150,7 +158,15 @@ pub fn take(
     ensures { λ _. ⌜ HoldsOneLess (taking side (now (points .entry)) count placement) (tileOf (now (table .entry)) (now (edges .entry))) (tileOf (now (table .exit)) (now (edges .exit))) ⌝ }
     ensures { λ _. ⌜ now (points .exit) ≡ now (points .entry) ⌝ }
 {
-    correct(Site::Alone(side), Change::Take, points, count, placement, edges, table)
+    correct(
+        Site::Alone(side),
+        Change::Take,
+        points,
+        count,
+        placement,
+        edges,
+        table,
+    )
 }
 
 // ---- a tile of a sheet
@@ -171,7 +187,15 @@ pub fn put_on_sheet(
     ensures { λ _. ⌜ HoldsOneMore (puttingOn place (now (points .entry)) count placement) (tileOf (now (table .entry)) (now (edges .entry))) (tileOf (now (table .exit)) (now (edges .exit))) ⌝ }
     ensures { λ _. ⌜ now (points .exit) ≡ now (points .entry) ⌝ }
 {
-    correct(Site::OnSheet(place), Change::Put, points, count, placement, edges, table)
+    correct(
+        Site::OnSheet(place),
+        Change::Put,
+        points,
+        count,
+        placement,
+        edges,
+        table,
+    )
 }
 
 // As `take`, on a sheet.
@@ -189,5 +213,13 @@ pub fn take_on_sheet(
     ensures { λ _. ⌜ HoldsOneLess (takingOn place (now (points .entry)) count placement) (tileOf (now (table .entry)) (now (edges .entry))) (tileOf (now (table .exit)) (now (edges .exit))) ⌝ }
     ensures { λ _. ⌜ now (points .exit) ≡ now (points .entry) ⌝ }
 {
-    correct(Site::OnSheet(place), Change::Take, points, count, placement, edges, table)
+    correct(
+        Site::OnSheet(place),
+        Change::Take,
+        points,
+        count,
+        placement,
+        edges,
+        table,
+    )
 }

@@ -81,8 +81,12 @@ module _ (sheet side : ℕ) (points : List ℤ) (counts : List ℕ) (placement :
         let yes14 = a .site .0 in
         let m = sheet / side in
         let covers : cellWidth (depthOf sheet) 0 ≡ m * cellWidth (depthOf side) 0 =
-        omega (arith, side-width sheet (sheet-power sheet side yes14), ap (λ n. m * n) (side-width side (side-power side (sheet-tile-side sheet side yes14))),
-        sheet-covers sheet side yes14) in
+        omega (
+          arith,
+          side-width sheet (sheet-power sheet side yes14),
+          ap (λ n. m * n) (side-width side (side-power side (sheet-tile-side sheet side yes14))),
+          sheet-covers sheet side yes14,
+        ) in
         Σ-cong m _ _ (λ row y. Σ-cong m _ _ (λ column x. root-is column row x y))
         ∙ tiles-add-up (depthOf sheet) m (depthOf side) covers (a .on-sheet .closed) (a .on-sheet .on-tile) octilinear
 

@@ -102,4 +102,3 @@ module _ {depth : ℕ} {es : List Edge} (closed : ClosedEdges es) (root : ℤ) w
       omega (arith, ap (λ n. n * denominator es) (bound-same (tally (λ e. 0) es) level cx cy ∙ ap (twiceMissLimit level) none)) in
       lin≡ (missFrom root depth es level cx cy ∷ [])
       (eq (zero-of-within (within-is (ap pos b) refl (miss-by-edges (counts-octilinear depth s) whole level cx cy c)))) (search linear depth 40) (tt, tt)
-

@@ -98,7 +98,7 @@ numer-map f g k s h (e ∷ es) =
     let rest = numer-map f g k s h es in (
       ap₂ _*_ (s e) (rest .0),
       ap₂ (λ a c. a *ℤ pos c +ℤ pos (steps (k e)) *ℤ numer steps f (map k es)) (h e) (rest .0)
-      ∙ ap₂ (λ n z. g e *ℤ pos (common steps es) +ℤ pos n *ℤ z) (s e) (rest .1),
+          ∙ ap₂ (λ n z. g e *ℤ pos (common steps es) +ℤ pos n *ℤ z) (s e) (rest .1),
     )
 
 module _ (depth tx ty : ℕ) (es : List Edge) where

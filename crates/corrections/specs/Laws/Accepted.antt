@@ -69,13 +69,12 @@ written-accepted (OnSheet place) cs before =
     let few = question5-means (countsOf cs) in
     let enough = question3-means (coordinates cs) (countsOf cs) .1 (coordinates-length cs) in
     let still = ap (λ l. question6 (place .sheet) l .answer) (placed-none (coordinates cs)) in (
-      λ done. (let y = all .0 done in
-          (
-            (y .0, y .1 .0),
-            y .1 .1 .0,
-            both (place .sheet) cs .1 (y .1 .1 .1 .0, sym still ∙ y .1 .1 .1 .1 .1 .1 .1 .0),
-            subst (λ n. n ≤ mostEdges) (contours-edges cs) (few .0 (y .1 .1 .1 .1 .0)),
-          )),
+      λ done. (let y = all .0 done in (
+        (y .0, y .1 .0),
+        y .1 .1 .0,
+        both (place .sheet) cs .1 (y .1 .1 .1 .0, sym still ∙ y .1 .1 .1 .1 .1 .1 .1 .0),
+        subst (λ n. n ≤ mostEdges) (contours-edges cs) (few .0 (y .1 .1 .1 .1 .0)),
+      )),
       λ h. (let right = both (place .sheet) cs .0 (h .2) in
           all .1 (
             h .0 .0,

@@ -3,6 +3,7 @@
 -- Main results
 --   site-side                    the tile's side is one of a tile's
 --   reach-power                  the side that question 6 reads is a power of two
+--   site-zero                    the questions about a site are all answered yes where none is answered no
 --   site-in-view                 edges within reach are in the tile's view
 --   site-entries                 their table is the sum of what each adds
 --   site-accepted                and can be drawn as promised
@@ -34,8 +35,9 @@ use Rattle.accuracy.specs.Theorem.{edges-accurate, sheet-accurate}
 use Rattle.accuracy.specs.Laws.SheetTiles.{from-tile-closed, from-tile-length, from-tile-on}
 use Rattle.rasterize.specs.Views.{viewTable, InView}
 use Rattle.rasterize.specs.Laws.EdgesInView.{in-view-alone, in-view-from}
-use Rattle.tile.specs.Questions.{Yes, depthOf, question1}
+use Rattle.tile.specs.Questions.{Yes, depthOf, firstNo, question1}
 use Rattle.tile.specs.Outcomes.{tableWith}
+use Rattle.tile.specs.Laws.FirstNo.{firstNo-zero}
 use Rattle.tile.specs.Laws.Sides.{side-power, side-depth}
 use Rattle.tile.specs.Laws.Accepted.{side-width, AcceptedEdges}
 use Rattle.tile.specs.Laws.DrawnArea.{miss-limit-cells}
@@ -43,7 +45,7 @@ use Rattle.sheet.specs.declared.SheetTile.{SheetTile}
 use Rattle.sheet.specs.declared.Site.{Site}
 use Rattle.sheet.specs.declared.Site.the-variants.{Alone, OnSheet}
 use Rattle.sheet.specs.SheetRefusals.{question15-means}
-use Rattle.sheet.specs.Sites.{tileSide, reach, SiteYes, viewAt, seenAt, rootRule, rootAt, twiceLimitAt, entriesAt}
+use Rattle.sheet.specs.Sites.{tileSide, reach, SiteYes, siteQuestions, viewAt, seenAt, rootRule, rootAt, twiceLimitAt, entriesAt}
 use Rattle.sheet.specs.Laws.Places.{sheet-power, sheet-le, sheet-tile-side, sheet-tile-depth, place-fits}
 
 -- ---- sides
@@ -54,6 +56,11 @@ site-side (OnSheet place) y = sheet-tile-side (place .sheet) (place .side) (y .0
 pub reach-power : (site : Site) → SiteYes site → reach site ≡ 2 ^ depthOf (reach site)
 reach-power (Alone side) y = side-power side y
 reach-power (OnSheet place) y = sheet-power (place .sheet) (place .side) (y .0)
+
+-- where the first "no" of the questions about a site is none, they are all answered yes
+pub site-zero : (site : Site) (table : List ℤ) → firstNo (siteQuestions site table) ≡ 0 → All Yes (siteQuestions site table)
+site-zero (Alone side) table e = firstNo-zero (siteQuestions (Alone side) table) tt .0 e
+site-zero (OnSheet place) table e = firstNo-zero (siteQuestions (OnSheet place) table) tt .0 e
 
 -- ---- the sheet, as it is seen from a tile on it
 module _ (place : SheetTile) (y : SiteYes (OnSheet place)) where
