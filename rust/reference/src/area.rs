@@ -4,8 +4,8 @@
 use crate::edge::{edges, Cell, Edge, Profile};
 use crate::exact::Exact;
 use crate::questions::depth;
-use crate::rules::Spec;
-use crate::STEPS;
+use crate::rules::{Rules, Spec};
+use crate::sheet::SheetTile;
 
 /// Each cell's exact area in units, row by row, of an accepted outline at a
 /// level from 0 to the depth: "for each edge, as y runs along it, take how far
@@ -15,14 +15,28 @@ use crate::STEPS;
 /// Other input, which building or drawing would refuse, may panic.
 pub fn exact_areas(side: u32, points: &[i64], counts: &[u32], level: u32) -> Vec<Exact> {
     assert!(level <= depth(side), "the level is above the depth");
+    areas(Cell::of(side, 0, 0, 0), points, counts, level)
+}
+
+/// As [`exact_areas`], of a tile at its place on a sheet: 02's P5 has "the exact
+/// area [...] cell by cell, with edges beyond the tile."
+pub fn exact_areas_on_sheet(place: SheetTile, points: &[i64], counts: &[u32], level: u32) -> Vec<Exact> {
+    assert!(level <= depth(place.side), "the level is above the depth");
+    areas(Spec.square(place), points, counts, level)
+}
+
+fn areas(tile: Cell, points: &[i64], counts: &[u32], level: u32) -> Vec<Exact> {
     let edges = edges(&Spec, points, counts);
-    let width = (STEPS * i64::from(side)) >> level;
-    let columns: Vec<Profile> = (0..1 << level).map(|cx| Profile::past_left(width * cx, width)).collect();
+    let columns: Vec<Profile> = (0..1 << level)
+        .map(|cx| tile.part(level, cx, 0))
+        .map(|cell| Profile::past_left(cell.left, cell.width))
+        .collect();
     let mut areas = Vec::with_capacity(columns.len() * columns.len());
     for cy in 0..1 << level {
+        let Cell { top, width, .. } = tile.part(level, 0, cy);
         let mut row = vec![Exact::default(); columns.len()];
         for edge in &edges {
-            let Some(stretch) = edge.between(width * cy, width * (cy + 1)) else {
+            let Some(stretch) = edge.between(top, top + width) else {
                 continue;
             };
             for (area, f) in row.iter_mut().zip(&columns) {
@@ -42,11 +56,21 @@ pub fn exact_areas(side: u32, points: &[i64], counts: &[u32], level: u32) -> Vec
 /// what the table would hold if nothing were rounded.
 pub fn exact_details(side: u32, points: &[i64], counts: &[u32], level: u32) -> Vec<[Exact; 3]> {
     assert!(level < depth(side), "only levels below the depth have details");
+    details(Cell::of(side, 0, 0, 0), points, counts, level)
+}
+
+/// As [`exact_details`], of a tile at its place on a sheet.
+pub fn exact_details_on_sheet(place: SheetTile, points: &[i64], counts: &[u32], level: u32) -> Vec<[Exact; 3]> {
+    assert!(level < depth(place.side), "only levels below the depth have details");
+    details(Spec.square(place), points, counts, level)
+}
+
+fn details(tile: Cell, points: &[i64], counts: &[u32], level: u32) -> Vec<[Exact; 3]> {
     let edges = edges(&Spec, points, counts);
     let mut details = Vec::new();
     for cy in 0..1 << level {
         for cx in 0..1 << level {
-            let cell = Cell::of(side, level, cx, cy);
+            let cell = tile.part(level, cx, cy);
             let mut sums = [Exact::default(), Exact::default(), Exact::default()];
             for edge in &edges {
                 for (sum, value) in sums.iter_mut().zip(edge.details(&Spec, cell)) {

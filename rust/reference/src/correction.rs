@@ -9,6 +9,7 @@ use crate::edge::edges;
 use crate::placement::{placed, Placement};
 use crate::questions::{Given, Question};
 use crate::rules::Rules;
+use crate::sheet::{worked_on_sheet, SheetTile};
 use crate::table::worked;
 
 /// What is done with a contour.
@@ -49,6 +50,38 @@ pub fn take(
     table: &mut [i64],
 ) -> Result<(), u8> {
     let contour = Given { side, points, counts: &[count], placement, ..Given::default() };
+    correct(rules, Correction::TakeOut, contour, record, table)
+}
+
+/// Puts the contour into a tile of a sheet: as [`put`], of a contour on the
+/// sheet. "A tile being corrected keeps one sheet side and one place": that is
+/// not asked, and cannot be told.
+pub fn put_on_sheet(
+    rules: &dyn Rules,
+    place: SheetTile,
+    points: &[i64],
+    count: u32,
+    placement: Placement,
+    record: &mut u32,
+    table: &mut [i64],
+) -> Result<(), u8> {
+    let contour =
+        Given { side: place.side, place: Some(place), points, counts: &[count], placement, ..Given::default() };
+    correct(rules, Correction::PutIn, contour, record, table)
+}
+
+/// Takes the contour out of a tile of a sheet: as [`take`], likewise.
+pub fn take_on_sheet(
+    rules: &dyn Rules,
+    place: SheetTile,
+    points: &[i64],
+    count: u32,
+    placement: Placement,
+    record: &mut u32,
+    table: &mut [i64],
+) -> Result<(), u8> {
+    let contour =
+        Given { side: place.side, place: Some(place), points, counts: &[count], placement, ..Given::default() };
     correct(rules, Correction::TakeOut, contour, record, table)
 }
 
@@ -101,13 +134,16 @@ fn leaves(rules: &dyn Rules, correction: Correction, contour: Given) -> Option<V
     Some(contour.table.iter().zip(values).map(changed).collect())
 }
 
-/// The contour's own table: entry 0 its signed area, and "each edge's three
-/// values are rounded on their own."
+/// The contour's own table: entry 0 its signed area, or on a sheet the tile's
+/// root, and "each edge's three values are rounded on their own."
 fn values(rules: &dyn Rules, correction: Correction, contour: Given) -> Vec<i64> {
     let placed = placed(rules, contour.placement, contour.points);
     let points = rules.corrected_points(correction, contour.points, &placed);
     let edges = rules.corrected_edges(correction, edges(rules, points, contour.counts));
-    worked(rules, contour.side, &edges)
+    match contour.place {
+        Some(place) => worked_on_sheet(rules, place, &edges),
+        None => worked(rules, contour.side, &edges),
+    }
 }
 
 /// The entries as 64 bits hold them. Of a table that question 9 lets pass they

@@ -13,7 +13,7 @@ pub struct Fraction {
     pub den: i128,
 }
 
-/// A square cell of the tile, in steps.
+/// A square cell of a tile, or the tile itself, in steps.
 #[derive(Clone, Copy, Debug, PartialEq, Eq)]
 pub struct Cell {
     /// x of its left side.
@@ -25,10 +25,16 @@ pub struct Cell {
 }
 
 impl Cell {
-    /// Cell (cx, cy) of a level; the level is at most the depth of the side.
+    /// Cell (cx, cy) of a level of a tile that lies at no place on a sheet; the
+    /// level is at most the depth of the side.
     pub fn of(side: u32, level: u32, cx: u32, cy: u32) -> Cell {
-        let width = (STEPS * i64::from(side)) >> level;
-        Cell { left: width * i64::from(cx), top: width * i64::from(cy), width }
+        Cell { left: 0, top: 0, width: STEPS * i64::from(side) }.part(level, cx, cy)
+    }
+
+    /// Cell (cx, cy) of a level of the tile that this is.
+    pub fn part(self, level: u32, cx: u32, cy: u32) -> Cell {
+        let width = self.width >> level;
+        Cell { left: self.left + width * i64::from(cx), top: self.top + width * i64::from(cy), width }
     }
 }
 
@@ -166,6 +172,21 @@ impl Edge {
         self.between(top, bottom).map_or(0, |stretch| stretch.twice_integral(f))
     }
 
+    /// The edge's exact part of the area of a cell: "as y runs along it, take
+    /// how far x lies past the cell's left side, held between 0 and the cell's
+    /// width; sum that over the y that lie in the cell's rows, with the sign of
+    /// the edge's run in y; [...] double it." An edge right of the cell has a
+    /// part, one left of it, above it or below it has none.
+    pub fn area(self, cell: Cell) -> Fraction {
+        self.area_by(&Profile::past_left(cell.left, cell.width), cell)
+    }
+
+    /// As `area`, with another function for how far x lies past the left side.
+    pub(crate) fn area_by(self, past_left: &Profile, cell: Cell) -> Fraction {
+        let num = self.twice_integral(past_left, cell.top, cell.top + cell.width);
+        Fraction { num, den: self.denominator() }
+    }
+
     /// The exact h, v and d of the edge in a cell: "h is twice the integral,
     /// over dy inside the cell, of the distance from x to the cell's nearer
     /// upright side. v is minus the same with x and y exchanged. d is as h,
@@ -186,16 +207,6 @@ impl Edge {
         let exchanged = self.exchanged().twice_integral(down, left, right);
         let den = self.denominator();
         [upper + lower, v_sign * exchanged, upper - lower].map(|num| Fraction { num, den })
-    }
-
-    /// The edge's exact part of a cell's area: "as y runs along it, take how
-    /// far x lies past the cell's left side, held between 0 and the cell's
-    /// width; sum that over the y that lie in the cell's rows, with the sign of
-    /// the edge's run in y; ... double it."
-    pub fn area(self, cell: Cell) -> Fraction {
-        let past_left = Profile::past_left(cell.left, cell.width);
-        let num = self.twice_integral(&past_left, cell.top, cell.top + cell.width);
-        Fraction { num, den: self.denominator() }
     }
 
     /// Whether some part of the edge "lies strictly inside" a cell, as 02 says
@@ -318,10 +329,9 @@ mod tests {
             let (right, middle, bottom) = (left + width, top + width / 2, top + width);
 
             let past_left = |x: i64, s: i64| (x - left * s).clamp(0, width * s);
-            let area = by_slices(edge, top, bottom, past_left);
-            let Fraction { num, den } = edge.area(cell);
-            assert!(same(Fraction { num, den }, area), "area of {edge:?} in {cell:?}");
-            fractions += usize::from(num % den != 0);
+            let area = edge.area(cell);
+            assert!(same(area, by_slices(edge, top, bottom, past_left)), "area of {edge:?} in {cell:?}");
+            fractions += usize::from(area.num % area.den != 0);
 
             let nearer = |low: i64, high: i64| move |x: i64, s: i64| (x - low * s).min(high * s - x).max(0);
             let h = by_slices(edge, top, bottom, nearer(left, right));

@@ -251,22 +251,45 @@ impl Miss {
 
     /// Whether the miss is "at most (4^L − 1) × edges / 2".
     pub fn within(&self, level: u32, edges: u32) -> bool {
-        let twice = self.value.times(2);
-        twice.cmp_whole(twice_bound(level, edges)) != Ordering::Greater
+        self.twice_at_most(twice_bound(level, edges))
+    }
+
+    /// Whether the miss is one that a tile of a sheet may have: 02's P5, "a
+    /// figure may miss by 4^L × edges / 2."
+    pub fn within_on_sheet(&self, level: u32, edges: u32) -> bool {
+        self.twice_at_most(twice_bound_on_sheet(level, edges))
     }
 
     /// The miss over its bound, for display only; 0 where both are 0.
     pub fn ratio(&self, level: u32, edges: u32) -> f64 {
+        self.ratio_to(twice_bound(level, edges))
+    }
+
+    /// The miss over its bound on a sheet, likewise.
+    pub fn ratio_on_sheet(&self, level: u32, edges: u32) -> f64 {
+        self.ratio_to(twice_bound_on_sheet(level, edges))
+    }
+
+    fn twice_at_most(&self, bound: i128) -> bool {
+        self.value.times(2).cmp_whole(bound) != Ordering::Greater
+    }
+
+    fn ratio_to(&self, twice_bound: i128) -> f64 {
         if self.is_zero() {
             return 0.0;
         }
-        2.0 * self.value.to_f64() / twice_bound(level, edges) as f64
+        2.0 * self.value.to_f64() / twice_bound as f64
     }
 }
 
 /// Twice the bound of demand 3: (4^level − 1) × edges.
 fn twice_bound(level: u32, edges: u32) -> i128 {
     (power(level) - 1) * i128::from(edges)
+}
+
+/// Twice the bound on a sheet, where the root is rounded too: 4^level × edges.
+fn twice_bound_on_sheet(level: u32, edges: u32) -> i128 {
+    power(level) * i128::from(edges)
 }
 
 /// 4^level, for the levels of a tile.
@@ -417,6 +440,24 @@ mod tests {
         let area = Exact::from_whole(9);
         assert!(area.miss(9, 0).within(0, 3) && !area.miss(8, 0).within(0, 3));
         assert_eq!((area.miss(9, 0).ratio(0, 3), area.miss(8, 0).ratio(0, 3)), (0.0, f64::INFINITY));
+    }
+
+    #[test]
+    fn misses_on_a_sheet() {
+        // The bound of level 1 with 3 edges is 6, and of level 0 it is 1 1/2.
+        let area = of(&[(1, 2)]);
+        assert!(area.miss(8, 1).within_on_sheet(1, 3) && area.miss(-4, 1).within_on_sheet(1, 3));
+        assert!(!area.miss(9, 1).within_on_sheet(1, 3) && !area.miss(-5, 1).within_on_sheet(1, 3));
+        assert!(area.miss(2, 0).within_on_sheet(0, 3) && area.miss(-1, 0).within_on_sheet(0, 3));
+        assert!(!area.miss(3, 0).within_on_sheet(0, 3) && !area.miss(-2, 0).within_on_sheet(0, 3));
+        let finer = of(&[(1, 2), (-1, 1 << 28)]);
+        assert!(!finer.miss(2, 0).within_on_sheet(0, 3) && finer.miss(-1, 0).within_on_sheet(0, 3));
+        assert_eq!([area.miss(2, 0).ratio_on_sheet(0, 3), area.miss(5, 1).ratio_on_sheet(1, 3)], [1.0, 0.5]);
+        // No edge has no miss.
+        assert!(
+            Exact::default().miss(0, 2).within_on_sheet(2, 0) && !Exact::default().miss(1, 2).within_on_sheet(2, 0)
+        );
+        assert_eq!(Exact::default().miss(0, 2).ratio_on_sheet(2, 0), 0.0);
     }
 
     #[test]

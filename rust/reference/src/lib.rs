@@ -1,13 +1,12 @@
 //! An independent reference for grey tiles from traced outlines.
 //!
-//! It states the specification ("01") and three paragraphs of the change
-//! requests ("02"), P1 on placements, P3 on contours put in and taken out and P4
-//! on wrong-handed tracing, a second time, in plain Rust and by another method
-//! than the product, so that the two can be compared on any input. It is written
-//! to be read: nothing here is tuned beyond what running it on many thousands of
-//! outlines needs. (The stored answers also take a count from P2, from P5 that
-//! an edge's area is rounded on its own, and from P12 when an edge comes inside a
-//! cell.)
+//! It states the specification ("01") and four paragraphs of the change
+//! requests ("02"), P1 on placements, P3 on contours put in and taken out, P4 on
+//! wrong-handed tracing and P5 on letters that cross the tile, a second time, in
+//! plain Rust and by another method than the product, so that the two can be
+//! compared on any input. It is written to be read: nothing here is tuned beyond
+//! what running it on many thousands of outlines needs. (The stored answers also
+//! take a count from P2, and from P12 when an edge comes inside a cell.)
 //!
 //! # How areas are worked out
 //!
@@ -77,6 +76,18 @@
 //! signs, and a hole takes away from its letter whichever way both are traced.
 //! The exact area's grey is taken the same way, without any rounding before.
 //!
+//! # How tiles of a sheet are drawn
+//!
+//! 02 lets an outline lie on a sheet that is larger than a tile, and draws one
+//! tile of it. Here nothing is moved: a tile is a square of the sheet, its cells
+//! are taken at their place there, and every edge of the outline is worked in
+//! each of them, as above. An edge that does not come into a cell has no details
+//! there. But it can have a part of the cell's area: along an edge to the right
+//! of the cell, x is held at the cell's width. So the root of a tile, which is
+//! no longer the signed area, is the sum over all edges of their parts of the
+//! tile's area, and each part is rounded as a detail is. The calls that draw are
+//! those of a tile alone, for a table does not tell where it comes from.
+//!
 //! # The rules, and wrong rules
 //!
 //! What a careful person may get wrong stands in the trait [`Rules`], whose
@@ -93,9 +104,9 @@
 //!
 //! # Reading order
 //!
-//! `rules`, `questions`, `placement`, `edge`, `table`, `correction`, `picture`,
-//! `area`, `frame`; then `exact` and `big`, the arithmetic below; then `wrong`
-//! and `answers`.
+//! `rules`, `questions`, `placement`, `edge`, `table`, `correction`, `sheet`,
+//! `picture`, `area`, `frame`; then `exact` and `big`, the arithmetic below; then
+//! `wrong` and `answers`.
 
 #![forbid(unsafe_code)]
 #![warn(missing_docs)]
@@ -111,11 +122,12 @@ mod picture;
 mod placement;
 mod questions;
 mod rules;
+mod sheet;
 mod table;
 pub mod wrong;
 
-pub use area::{exact_areas, exact_details, signed_area};
-pub use correction::{put, take, Correction};
+pub use area::{exact_areas, exact_areas_on_sheet, exact_details, exact_details_on_sheet, signed_area};
+pub use correction::{put, put_on_sheet, take, take_on_sheet, Correction};
 pub use edge::{Bend, Cell, Edge, Fraction, Profile};
 pub use exact::{Exact, Miss};
 pub use frame::{frame, tile_program, Frame};
@@ -123,6 +135,7 @@ pub use picture::{cell, figures, greys};
 pub use placement::{placed, Placement};
 pub use questions::{Limits, Question};
 pub use rules::{Rules, Spec};
+pub use sheet::{build_on_sheet, SheetTile};
 pub use table::{build, build_placed};
 
 /// A full pixel's area: the unit is half a square step and a pixel is 256

@@ -6,16 +6,18 @@
 use crate::correction::Correction;
 use crate::placement::{moved, numbers, Placement};
 use crate::rules::Rules;
+use crate::sheet::SheetTile;
 use crate::{PARTS, STEPS};
 
-/// 01's ten questions about a call, 02's about a placement, which is 12, and
-/// 02's about taking out, which is 13; each one's number is the refusal's. 11
-/// is the tile program's alone.
+/// 01's ten questions about a call, 02's about a placement, which is 12, 02's
+/// about taking out, which is 13, and 02's two about a tile of a sheet; each
+/// one's number is the refusal's. 11 is the tile program's alone.
 #[derive(Clone, Copy, Debug, PartialEq, Eq)]
 pub enum Question {
     /// Is the side 1, 2, 4, 8, 16, 32 or 64?
     Side = 1,
-    /// Does the table have exactly side × side entries?
+    /// Does the table have exactly side × side entries? On a sheet, the side is
+    /// the tile's.
     TableLength = 2,
     /// Are the points exactly twice as many numbers as the counts' sum?
     PointsLength = 3,
@@ -24,7 +26,8 @@ pub enum Question {
     /// Is the counts' sum at most 1,024? For putting in, is the record's count
     /// plus the contour's?
     CountSum = 5,
-    /// Is every coordinate, as placed, from 0 to 256 × side?
+    /// Is every coordinate, as placed, from 0 to 256 × side? On a sheet, the
+    /// side is the sheet's.
     Coordinates = 6,
     /// Is the level at most the depth?
     Level = 7,
@@ -40,6 +43,11 @@ pub enum Question {
     Placing = 12,
     /// Does the record count as many edges as are taken out, or more?
     EnoughRecorded = 13,
+    /// Is the sheet's side 1, 2, 4, 8, 16, 32, 64 or 128, is the tile's 1, 2, 4,
+    /// 8, 16 or 32, and is the tile no larger than the sheet?
+    SheetSides = 14,
+    /// Is the tile's place on the sheet?
+    TilePlace = 15,
 }
 
 /// The limits that the questions compare with.
@@ -47,6 +55,10 @@ pub enum Question {
 pub struct Limits {
     /// The greatest side of a tile.
     pub greatest_side: u32,
+    /// The greatest side of a sheet.
+    pub greatest_sheet: u32,
+    /// The greatest side of a tile on a sheet.
+    pub greatest_on_sheet: u32,
     /// The fewest points of a contour.
     pub least_count: u32,
     /// The most points of a contour.
@@ -71,6 +83,8 @@ impl Limits {
     /// 01's and 02's limits.
     pub const SPEC: Limits = Limits {
         greatest_side: 64,
+        greatest_sheet: 128,
+        greatest_on_sheet: 32,
         least_count: 3,
         most_count: 1024,
         most_edges: 1024,
@@ -87,6 +101,8 @@ impl Limits {
 #[derive(Clone, Copy, Default)]
 pub(crate) struct Given<'a> {
     pub side: u32,
+    /// Of a call on a sheet, the tile with its place; the side is its side too.
+    pub place: Option<SheetTile>,
     pub table: &'a [i64],
     pub points: &'a [i64],
     pub counts: &'a [u32],
@@ -101,8 +117,13 @@ pub(crate) struct Given<'a> {
 }
 
 impl Given<'_> {
-    /// "The first 'no' decides": its number, or no refusal.
+    /// "The first 'no' decides": its number, or no refusal. The order is that of
+    /// the call without a sheet.
     pub fn ask(&self, order: &[Question], rules: &dyn Rules) -> Result<(), u8> {
+        let order = match self.place {
+            Some(_) => rules.on_sheet(order),
+            None => order.to_vec(),
+        };
         match order.iter().find(|&&question| !self.yes(question, rules)) {
             Some(&no) => Err(no as u8),
             None => Ok(()),
@@ -112,15 +133,18 @@ impl Given<'_> {
     fn yes(&self, question: Question, rules: &dyn Rules) -> bool {
         let limits = rules.limits();
         match question {
-            Question::Side => self.side <= limits.greatest_side && self.side.count_ones() == 1,
-            Question::TableLength => self.table.len() as u128 == u128::from(self.side) * u128::from(self.side),
+            Question::Side => is_side(self.side, limits.greatest_side),
+            Question::TableLength => {
+                let side = self.place.map_or(self.side, |place| rules.table_side(place));
+                self.table.len() as u128 == u128::from(side) * u128::from(side)
+            }
             Question::PointsLength => self.points.len() as u128 == 2 * sum(self.counts),
             Question::EachCount => {
                 self.counts.iter().all(|count| (limits.least_count..=limits.most_count).contains(count))
             }
             Question::CountSum => self.edges(rules) <= u128::from(limits.most_edges),
             Question::Coordinates => {
-                let far = STEPS * i64::from(self.side);
+                let far = STEPS * i64::from(self.place.map_or(self.side, |place| rules.coordinate_side(place)));
                 match moved(rules, self.placement, self.points) {
                     Some(placed) => rules.judged(self.points, &placed).iter().all(|x| (0..=far).contains(x)),
                     // A float that is refused places no point, so that there
@@ -152,6 +176,8 @@ impl Given<'_> {
                 !rules.moves_points(self.placement) || (floats() && points())
             }
             Question::EnoughRecorded => rules.enough_recorded(self.record, sum(self.counts)),
+            Question::SheetSides => self.place.is_none_or(|place| rules.are_sheet_sides(place)),
+            Question::TilePlace => self.place.is_none_or(|place| rules.is_on_sheet(place)),
         }
     }
 
@@ -162,6 +188,12 @@ impl Given<'_> {
             None => sum(self.counts),
         }
     }
+}
+
+/// Whether a number is a side: "exactly one bit of it is set", and it is at most
+/// the greatest.
+pub(crate) fn is_side(number: u32, greatest: u32) -> bool {
+    number <= greatest && number.count_ones() == 1
 }
 
 /// "The depth is the number of noughts below that bit."

@@ -1,13 +1,14 @@
-//! 01's rules and those of 02's P1, P3 and P4, one small method each.
+//! 01's rules and those of 02's P1, P3, P4 and P5, one small method each.
 
 use crate::correction::Correction;
-use crate::edge::{Edge, Fraction, Profile};
+use crate::edge::{Cell, Edge, Fraction, Profile};
 use crate::exact::Exact;
 use crate::placement::{in_parts, Placement};
-use crate::questions::{Limits, Question};
-use crate::{FULL_GREY, PARTS, PIXEL};
+use crate::questions::{is_side, Limits, Question};
+use crate::sheet::SheetTile;
+use crate::{FULL_GREY, PARTS, PIXEL, STEPS};
 
-/// The rules of 01 and of 02's P1, P3 and P4 that are easily got wrong. Each
+/// The rules of 01 and of 02's P1, P3, P4 and P5 that are easily got wrong. Each
 /// default body is the papers' rule; a wrong variant overrides one of them.
 pub trait Rules {
     /// The questions for building, in order: 1, 2, 4, 5, 3, 12, 6.
@@ -39,6 +40,17 @@ pub trait Rules {
     fn taking(&self) -> Vec<Question> {
         use Question::*;
         vec![Side, TableLength, EachCount, CountSum, PointsLength, Placing, Coordinates, EnoughRecorded, Entries]
+    }
+
+    /// The questions of a call on a sheet, from those of the same call without
+    /// one: 14 comes "in place of 1", and 15 "right after it."
+    fn on_sheet(&self, order: &[Question]) -> Vec<Question> {
+        use Question::*;
+        let replaced = |&question: &Question| match question {
+            Side => vec![SheetSides, TilePlace],
+            other => vec![other],
+        };
+        order.iter().flat_map(replaced).collect()
     }
 
     /// The limits that the questions compare with.
@@ -239,9 +251,50 @@ pub trait Rules {
     fn refused_table(&self, _number: u8, before: &[i64], _after: &[i128]) -> Vec<i64> {
         before.to_vec()
     }
+
+    /// Question 14: "a sheet of side up to 128 pixels, a power of two", a tile
+    /// "of side up to 32", which is a power of two as every tile's is, and not
+    /// "a tile larger than the sheet."
+    fn are_sheet_sides(&self, place: SheetTile) -> bool {
+        let limits = self.limits();
+        is_side(place.sheet, limits.greatest_sheet)
+            && is_side(place.side, limits.greatest_on_sheet)
+            && place.side <= place.sheet
+    }
+
+    /// Question 15: the tile's far sides are on the sheet. 64 bits hold the
+    /// product of any two numbers of 32 bits, and of a number one greater.
+    fn is_on_sheet(&self, place: SheetTile) -> bool {
+        let far = |number: u32| (u64::from(number) + 1) * u64::from(place.side);
+        far(place.column) <= place.sheet.into() && far(place.row) <= place.sheet.into()
+    }
+
+    /// The side that question 2 reads: the table is the tile's.
+    fn table_side(&self, place: SheetTile) -> u32 {
+        place.side
+    }
+
+    /// "Question 6 reads the sheet's side."
+    fn coordinate_side(&self, place: SheetTile) -> u32 {
+        place.sheet
+    }
+
+    /// The tile's square on the sheet: "at a given place in whole tiles."
+    fn square(&self, place: SheetTile) -> Cell {
+        let width = STEPS * i64::from(place.side);
+        Cell { left: width * i64::from(place.column), top: width * i64::from(place.row), width }
+    }
+
+    /// The root of a tile of a sheet, from all edges of the outline: each one's
+    /// exact part of the tile's area, and "the root is now rounded for each edge
+    /// too."
+    fn sheet_root(&self, edges: &[Edge], place: SheetTile) -> i64 {
+        let tile = self.square(place);
+        edges.iter().map(|edge| self.round(edge.area(tile))).sum()
+    }
 }
 
-/// 01, and 02's P1, P3 and P4, as they stand.
+/// 01, and 02's P1, P3, P4 and P5, as they stand.
 #[derive(Clone, Copy, Debug, Default)]
 pub struct Spec;
 

@@ -4,6 +4,7 @@ use crate::edge::{edges, Cell, Edge};
 use crate::placement::{placed, Placement};
 use crate::questions::{depth, Given};
 use crate::rules::Rules;
+use crate::STEPS;
 
 /// Builds an outline's table as it comes, without a placement: see
 /// [`build_placed`].
@@ -35,12 +36,19 @@ pub fn build_placed(
     Ok((counts.iter().sum(), worked(rules, side, &edges)))
 }
 
-/// The table of some edges: entry 0 their signed area, and in each cell h, v
-/// and d.
+/// The table of some edges on a tile alone, whose root is their signed area.
 pub(crate) fn worked(rules: &dyn Rules, side: u32, edges: &[Edge]) -> Vec<i64> {
+    let root = edges.iter().map(|edge| edge.shoelace()).sum();
+    with_root(rules, root, Cell::of(side, 0, 0, 0), edges)
+}
+
+/// The table of some edges, of the tile that is this square: entry 0 the root,
+/// and of each cell h, v and d.
+pub(crate) fn with_root(rules: &dyn Rules, root: i64, tile: Cell, edges: &[Edge]) -> Vec<i64> {
+    let side = (tile.width / STEPS) as u32;
     let v_sign = rules.v_sign();
     let mut built = vec![0; (side * side) as usize];
-    built[0] = edges.iter().map(|edge| edge.shoelace()).sum();
+    built[0] = root;
 
     // The cell's edge values of h, v and d; zeros are left out, for an edge
     // has none but zeros in nearly all cells.
@@ -48,7 +56,7 @@ pub(crate) fn worked(rules: &dyn Rules, side: u32, edges: &[Edge]) -> Vec<i64> {
     for j in 0..depth(side) {
         for cy in 0..1 << j {
             for cx in 0..1 << j {
-                let cell = Cell::of(side, j, cx, cy);
+                let cell = tile.part(j, cx, cy);
                 let across = rules.distance(cell.left, cell.width);
                 let down = rules.distance(cell.top, cell.width);
                 for edge in edges {

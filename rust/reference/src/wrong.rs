@@ -1,13 +1,14 @@
-//! Wrong variants: each spoils one rule of 01 or of 02's P1, P3 or P4, so that a
-//! comparison with this reference can be shown to notice.
+//! Wrong variants: each spoils one rule of 01 or of 02's P1, P3, P4 or P5, so
+//! that a comparison with this reference can be shown to notice.
 
 use crate::correction::{written, Correction};
-use crate::edge::{Bend, Edge, Fraction, Profile};
+use crate::edge::{Bend, Cell, Edge, Fraction, Profile};
 use crate::exact::Exact;
 use crate::placement::Placement;
-use crate::questions::{Limits, Question};
+use crate::questions::{is_side, Limits, Question};
 use crate::rules::{full, held, nearest_grey, Rules, Spec};
-use crate::{FULL_GREY, PARTS};
+use crate::sheet::SheetTile;
+use crate::{FULL_GREY, PARTS, STEPS};
 
 /// All variants of 01's rules, each with a short name. Calls without a
 /// placement can tell each of them.
@@ -114,6 +115,34 @@ pub fn of_magnitude() -> Vec<(&'static str, Box<dyn Rules>)> {
         ("figures turned by the root's sign", Box::new(TurnedByRoot)),
         ("each contour turned clockwise", Box::new(ContoursTurned)),
         ("an exact area below zero white", Box::new(ExactBelowZeroWhite)),
+    ]
+}
+
+/// All variants of 02's P5, each with a short name. They have a list of their own
+/// because only the calls on a sheet can tell them.
+pub fn of_sheet() -> Vec<(&'static str, Box<dyn Rules>)> {
+    vec![
+        ("the signed area as the root on a sheet", Box::new(ShoelaceRoot)),
+        ("edges off the tile left out of the root", Box::new(OffTileSkipped)),
+        ("x past the tile's right side not held in the root", Box::new(RightNotHeld)),
+        ("the root on a sheet rounded once", Box::new(RootRoundedOnce)),
+        ("the place in pixels", Box::new(PlaceInPixels)),
+        ("column and row exchanged", Box::new(PlaceExchanged)),
+        ("the place in the root alone", Box::new(PlaceInRootAlone)),
+        ("a place at the far border accepted", Box::new(FarBorderLetIn)),
+        ("the place multiplied in 32 bits", Box::new(PlaceMultiplied)),
+        ("question 15 without the row", Box::new(RowNotAsked)),
+        ("question 15 asked before question 14", Box::new(PlaceBeforeSides)),
+        ("question 15 asked after question 2", Box::new(PlaceAfterTable)),
+        ("question 1 asked before question 14", Box::new(SideAskedFirst)),
+        ("a sheet of 256 accepted", Box::new(LargerSheet)),
+        ("a sheet of 128 refused", Box::new(LargestSheetRefused)),
+        ("a tile of 64 on a sheet accepted", Box::new(LargerTileOnSheet)),
+        ("a tile of 32 on a sheet refused", Box::new(LargestTileRefused)),
+        ("a sheet's side with two bits accepted", Box::new(AnySheetSide)),
+        ("a tile larger than its sheet not 14", Box::new(LargerThanSheet)),
+        ("question 2 with the sheet's side", Box::new(SheetTable)),
+        ("question 6 with the tile's side", Box::new(TileCoordinates)),
     ]
 }
 
@@ -921,5 +950,227 @@ pub struct ExactBelowZeroWhite;
 impl Rules for ExactBelowZeroWhite {
     fn exact_grey(&self, area: &Exact, side: u32, level: u32) -> u8 {
         held(area.nearest_grey(side, level))
+    }
+}
+
+/// Wrong: the root of a tile of a sheet is the signed area of the outline, as
+/// that of a tile alone is.
+pub struct ShoelaceRoot;
+
+impl Rules for ShoelaceRoot {
+    fn sheet_root(&self, edges: &[Edge], _place: SheetTile) -> i64 {
+        edges.iter().map(|edge| edge.shoelace()).sum()
+    }
+}
+
+/// Wrong: an edge no part of which lies inside the tile is passed over, for the
+/// root too, as it rightly is for the details.
+pub struct OffTileSkipped;
+
+impl Rules for OffTileSkipped {
+    fn sheet_root(&self, edges: &[Edge], place: SheetTile) -> i64 {
+        let tile = self.square(place);
+        let inside: Vec<Edge> = edges.iter().copied().filter(|edge| edge.comes_inside(tile)).collect();
+        Spec.sheet_root(&inside, place)
+    }
+}
+
+/// Wrong: in the root, how far x lies past the tile's left side is not held at
+/// the tile's width.
+pub struct RightNotHeld;
+
+impl Rules for RightNotHeld {
+    fn sheet_root(&self, edges: &[Edge], place: SheetTile) -> i64 {
+        let tile = self.square(place);
+        let past_left = Profile::new(vec![Bend { at: tile.left, turn: 1 }]);
+        edges.iter().map(|edge| self.round(edge.area_by(&past_left, tile))).sum()
+    }
+}
+
+/// Wrong: the edges' parts of the tile's area are summed first and the sum is
+/// rounded.
+pub struct RootRoundedOnce;
+
+impl Rules for RootRoundedOnce {
+    fn sheet_root(&self, edges: &[Edge], place: SheetTile) -> i64 {
+        let tile = self.square(place);
+        let mut sum = Exact::default();
+        for edge in edges {
+            let Fraction { num, den } = edge.area(tile);
+            sum.add_fraction(num, den);
+        }
+        sum.round() as i64
+    }
+}
+
+/// Wrong: a tile's column and row are counted in pixels, not in whole tiles.
+pub struct PlaceInPixels;
+
+impl Rules for PlaceInPixels {
+    fn square(&self, place: SheetTile) -> Cell {
+        let Cell { width, .. } = Spec.square(place);
+        Cell { left: STEPS * i64::from(place.column), top: STEPS * i64::from(place.row), width }
+    }
+}
+
+/// Wrong: the column counts tiles downwards, and the row to the right.
+pub struct PlaceExchanged;
+
+impl Rules for PlaceExchanged {
+    fn square(&self, place: SheetTile) -> Cell {
+        Spec.square(SheetTile { column: place.row, row: place.column, ..place })
+    }
+}
+
+/// Wrong: the details are those of the sheet's upper left tile, and only the
+/// root is the tile's own.
+pub struct PlaceInRootAlone;
+
+impl Rules for PlaceInRootAlone {
+    fn square(&self, place: SheetTile) -> Cell {
+        Spec.square(SheetTile { column: 0, row: 0, ..place })
+    }
+
+    fn sheet_root(&self, edges: &[Edge], place: SheetTile) -> i64 {
+        Spec.sheet_root(edges, place)
+    }
+}
+
+/// Wrong: a tile may begin where the sheet ends.
+pub struct FarBorderLetIn;
+
+impl Rules for FarBorderLetIn {
+    fn is_on_sheet(&self, place: SheetTile) -> bool {
+        let begins = |number: u32| u64::from(number) * u64::from(place.side);
+        begins(place.column) <= place.sheet.into() && begins(place.row) <= place.sheet.into()
+    }
+}
+
+/// Wrong: where a tile begins is worked out in 32 bits, which go round.
+pub struct PlaceMultiplied;
+
+impl Rules for PlaceMultiplied {
+    fn is_on_sheet(&self, place: SheetTile) -> bool {
+        place.column.wrapping_mul(place.side) < place.sheet && place.row.wrapping_mul(place.side) < place.sheet
+    }
+}
+
+/// Wrong: a tile may lie below the sheet.
+pub struct RowNotAsked;
+
+impl Rules for RowNotAsked {
+    fn is_on_sheet(&self, place: SheetTile) -> bool {
+        Spec.is_on_sheet(SheetTile { row: 0, ..place })
+    }
+}
+
+/// Wrong: the place is asked about before the sides that it depends on.
+pub struct PlaceBeforeSides;
+
+impl Rules for PlaceBeforeSides {
+    fn on_sheet(&self, order: &[Question]) -> Vec<Question> {
+        use Question::*;
+        let mut order = Spec.on_sheet(order);
+        order.retain(|&question| question != TilePlace);
+        order.insert(0, TilePlace);
+        order
+    }
+}
+
+/// Wrong: the place is asked about after the table, not right after the sides.
+pub struct PlaceAfterTable;
+
+impl Rules for PlaceAfterTable {
+    fn on_sheet(&self, order: &[Question]) -> Vec<Question> {
+        use Question::*;
+        let moved = |question: Question| match question {
+            TilePlace => vec![],
+            TableLength => vec![TableLength, TilePlace],
+            other => vec![other],
+        };
+        Spec.on_sheet(order).into_iter().flat_map(moved).collect()
+    }
+}
+
+/// Wrong: the tile's side is asked about as that of a tile alone first.
+pub struct SideAskedFirst;
+
+impl Rules for SideAskedFirst {
+    fn on_sheet(&self, order: &[Question]) -> Vec<Question> {
+        [vec![Question::Side], Spec.on_sheet(order)].concat()
+    }
+}
+
+/// Wrong: a sheet may be 256 pixels wide.
+pub struct LargerSheet;
+
+impl Rules for LargerSheet {
+    fn limits(&self) -> Limits {
+        Limits { greatest_sheet: 2 * Limits::SPEC.greatest_sheet, ..Limits::SPEC }
+    }
+}
+
+/// Wrong: a sheet is at most 64 pixels wide.
+pub struct LargestSheetRefused;
+
+impl Rules for LargestSheetRefused {
+    fn limits(&self) -> Limits {
+        Limits { greatest_sheet: Limits::SPEC.greatest_sheet / 2, ..Limits::SPEC }
+    }
+}
+
+/// Wrong: a tile of a sheet may be as large as a tile alone.
+pub struct LargerTileOnSheet;
+
+impl Rules for LargerTileOnSheet {
+    fn limits(&self) -> Limits {
+        Limits { greatest_on_sheet: Limits::SPEC.greatest_side, ..Limits::SPEC }
+    }
+}
+
+/// Wrong: a tile of a sheet is at most 16 pixels wide.
+pub struct LargestTileRefused;
+
+impl Rules for LargestTileRefused {
+    fn limits(&self) -> Limits {
+        Limits { greatest_on_sheet: Limits::SPEC.greatest_on_sheet / 2, ..Limits::SPEC }
+    }
+}
+
+/// Wrong: a sheet's side need not be a power of two.
+pub struct AnySheetSide;
+
+impl Rules for AnySheetSide {
+    fn are_sheet_sides(&self, place: SheetTile) -> bool {
+        let Limits { greatest_sheet, greatest_on_sheet, .. } = self.limits();
+        place.sheet <= greatest_sheet && is_side(place.side, greatest_on_sheet) && place.side <= place.sheet
+    }
+}
+
+/// Wrong: a tile that is larger than its sheet is left to question 15.
+pub struct LargerThanSheet;
+
+impl Rules for LargerThanSheet {
+    fn are_sheet_sides(&self, place: SheetTile) -> bool {
+        let Limits { greatest_sheet, greatest_on_sheet, .. } = self.limits();
+        is_side(place.sheet, greatest_sheet) && is_side(place.side, greatest_on_sheet)
+    }
+}
+
+/// Wrong: the table has an entry for each pixel of the sheet.
+pub struct SheetTable;
+
+impl Rules for SheetTable {
+    fn table_side(&self, place: SheetTile) -> u32 {
+        place.sheet
+    }
+}
+
+/// Wrong: a coordinate is at most 256 times the tile's side, as on a tile alone.
+pub struct TileCoordinates;
+
+impl Rules for TileCoordinates {
+    fn coordinate_side(&self, place: SheetTile) -> u32 {
+        place.side
     }
 }

@@ -337,7 +337,7 @@ fn refused_records() {
 
 #[test]
 fn every_name_is_given_once() {
-    let lists = [wrong::all(), wrong::of_placement(), wrong::of_correction(), wrong::of_magnitude()];
+    let lists = [wrong::all(), wrong::of_placement(), wrong::of_correction(), wrong::of_magnitude(), wrong::of_sheet()];
     let mut names: Vec<&str> = lists.iter().flatten().map(|(name, _)| *name).collect();
     let length = names.len();
     names.sort();

@@ -1,12 +1,14 @@
-//! Pseudo-random outlines and placements for the tests, the same at each run,
-//! and calls that draw a tile or correct it.
+//! Pseudo-random outlines, placements and tiles of sheets for the tests, the same
+//! at each run, and calls that draw a tile or correct it.
 #![allow(dead_code)] // each test file uses a part of this
 
-use reference::{figures, greys, put, take, Correction, Placement, Rules, Spec};
+use reference::{figures, greys, put, put_on_sheet, take, take_on_sheet};
+use reference::{Correction, Placement, Rules, SheetTile, Spec};
 
 /// An outline that building accepts.
 #[derive(Clone, Debug)]
 pub struct Outline {
+    /// The side of its tile, or of its sheet.
     pub side: u32,
     pub points: Vec<i64>,
     pub counts: Vec<u32>,
@@ -109,6 +111,14 @@ impl Random {
         Outline { side, points, counts, straight: kind == 4 }
     }
 
+    /// A random tile of a sheet, all sides as often as one another.
+    pub fn sheet_tile(&mut self) -> SheetTile {
+        let sides = sheet_sides();
+        let (sheet, side) = sides[self.below(sides.len() as i64) as usize];
+        let [column, row] = [0; 2].map(|_: u32| self.below((sheet / side).into()) as u32);
+        SheetTile { sheet, side, column, row }
+    }
+
     /// A random placement that lies far from every limit. It leaves points
     /// whose coordinates are from 300 to 600 on the tile of side 4: at most 600
     /// × 5/4 + 600 × 1/4 + 40, and at least 300 × 3/4 − 600 × 1/4 − 40. Half of
@@ -136,6 +146,12 @@ impl Random {
     }
 }
 
+/// The sides of sheets, each with the sides of the tiles on it.
+pub fn sheet_sides() -> Vec<(u32, u32)> {
+    let all = (0..=7).flat_map(|sheet| (0..=5).map(move |side| (1 << sheet, 1 << side)));
+    all.filter(|(sheet, side)| side <= sheet).collect()
+}
+
 /// The figures and greys of a level.
 pub fn drawn(side: u32, level: u32, table: &[i64]) -> (Vec<i64>, Vec<u8>) {
     let places = 4usize.pow(level);
@@ -148,6 +164,8 @@ pub fn drawn(side: u32, level: u32, table: &[i64]) -> (Vec<i64>, Vec<u8>) {
 pub struct Call {
     pub correction: Correction,
     pub side: u32,
+    /// The tile's place, which has its own side, where it is one of a sheet.
+    pub place: Option<SheetTile>,
     pub points: Vec<i64>,
     pub count: u32,
     pub placement: Placement,
@@ -162,15 +180,27 @@ impl Call {
     /// A contour that is not moved.
     pub fn of(correction: Correction, side: u32, points: &[i64], record: u32, table: &[i64]) -> Call {
         let (count, placement) = (points.len() as u32 / 2, Placement::None);
-        Call { correction, side, points: points.to_vec(), count, placement, record, table: table.to_vec() }
+        Call { correction, side, place: None, points: points.to_vec(), count, placement, record, table: table.to_vec() }
+    }
+
+    /// The same, of a tile of a sheet.
+    pub fn on_sheet(correction: Correction, place: SheetTile, points: &[i64], record: u32, table: &[i64]) -> Call {
+        Call { place: Some(place), ..Call::of(correction, place.side, points, record, table) }
     }
 
     pub fn outcome(&self, rules: &dyn Rules) -> Outcome {
-        let (mut record, mut table) = (self.record, self.table.clone());
-        let answer = match self.correction {
-            Correction::PutIn => put,
-            Correction::TakeOut => take,
-        }(rules, self.side, &self.points, self.count, self.placement, &mut record, &mut table);
+        let Call { side, count, placement, mut record, .. } = *self;
+        let (points, mut table) = (&self.points, self.table.clone());
+        let answer = match (self.correction, self.place) {
+            (Correction::PutIn, None) => put(rules, side, points, count, placement, &mut record, &mut table),
+            (Correction::TakeOut, None) => take(rules, side, points, count, placement, &mut record, &mut table),
+            (Correction::PutIn, Some(place)) => {
+                put_on_sheet(rules, place, points, count, placement, &mut record, &mut table)
+            }
+            (Correction::TakeOut, Some(place)) => {
+                take_on_sheet(rules, place, points, count, placement, &mut record, &mut table)
+            }
+        };
         (answer, record, table)
     }
 
