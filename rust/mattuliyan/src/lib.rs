@@ -25,13 +25,20 @@
 //! dot back, and it is then the tile that building the contours that remain would make. [`put`] and [`take`] are the same for a table and a
 //! record of one's own.
 //!
+//! A letter that is wider than a tile lies on a sheet of up to 128 pixels a side, and is drawn tile by tile: [`build_on_sheet`],
+//! [`put_on_sheet`] and [`take_on_sheet`] are given a [`SheetTile`], which says what tile of what sheet it is.
+//!
 //! Every input is answered: the work is done, or the call is refused, and a [`Refusal`] says why.
 #![warn(missing_docs)]
 
 mod refusal;
+mod sheet;
 mod tile;
 
 pub use refusal::Refusal;
+pub use sheet::{build_on_sheet, put_on_sheet, take_on_sheet, SheetTile};
+#[doc(hidden)]
+pub use sheet::{build_on_sheet_by_numbers, put_on_sheet_by_numbers, take_on_sheet_by_numbers};
 pub use tile::Tile;
 
 /// `include/mattuliyan.h` of the crate `tile_c`, which says what a caller owes: what every slice of Rust gives, and floats as a program
@@ -73,6 +80,49 @@ mod c {
         ) -> u32;
         pub fn mattuliyan_take(
             side: u32,
+            points: *const i64,
+            points_length: usize,
+            count: u32,
+            placement: *const f64,
+            placement_length: usize,
+            edges: *mut u32,
+            table: *mut i64,
+            table_length: usize,
+        ) -> u32;
+        pub fn mattuliyan_build_on_sheet(
+            sheet: u32,
+            side: u32,
+            column: u32,
+            row: u32,
+            points: *const i64,
+            points_length: usize,
+            counts: *const u32,
+            counts_length: usize,
+            placement: *const f64,
+            placement_length: usize,
+            table: *mut i64,
+            table_length: usize,
+            edges: *mut u32,
+        ) -> u32;
+        pub fn mattuliyan_put_on_sheet(
+            sheet: u32,
+            side: u32,
+            column: u32,
+            row: u32,
+            points: *const i64,
+            points_length: usize,
+            count: u32,
+            placement: *const f64,
+            placement_length: usize,
+            edges: *mut u32,
+            table: *mut i64,
+            table_length: usize,
+        ) -> u32;
+        pub fn mattuliyan_take_on_sheet(
+            sheet: u32,
+            side: u32,
+            column: u32,
+            row: u32,
             points: *const i64,
             points_length: usize,
             count: u32,

@@ -16,6 +16,9 @@ macro_rules! questions {
         /// [`build`](crate::build) asks 1, 2, 4, 5, 3, 6; [`build_placed`](crate::build_placed) 1, 2, 4, 5, 3, 12, 6;
         /// [`put`](crate::put) 1, 2, 4, 5, 3, 12, 6, 9; [`take`](crate::take) 1, 2, 4, 5, 3, 12, 6, 13, 9;
         /// [`figures`](crate::figures) and [`greys`](crate::greys) 1, 2, 7, 8, 9; [`cell`](crate::cell) 1, 2, 7, 10, 9.
+        /// On a sheet, 14 and 15 come in the place of 1: [`build_on_sheet`](crate::build_on_sheet) asks 14, 15, 2, 4, 5, 3, 12, 6;
+        /// [`put_on_sheet`](crate::put_on_sheet) 14, 15, 2, 4, 5, 3, 12, 6, 9; [`take_on_sheet`](crate::take_on_sheet) 14, 15, 2, 4, 5, 3,
+        /// 12, 6, 13, 9. There the side is the tile's in question 2, and the sheet's in question 6.
         #[derive(Clone, Copy, Debug, PartialEq, Eq)]
         pub struct Refusal {
             number: u8,
@@ -30,7 +33,7 @@ questions! {
     3 "Are the points exactly twice as many numbers as the counts' sum?"
     4 "Is every count from 3 to 1,024?"
     5 "Is the counts' sum (for putting in, with the record's count) at most 1,024?"
-    6 "Is every coordinate, as placed, from 0 to 256 × side?"
+    6 "Is every coordinate, as placed, from 0 to 256 × side (on a sheet, the sheet's)?"
     7 "Is the level at most the depth, the number of halvings from the side to 1?"
     8 "Has the picture exactly 4^level places?"
     9 "Is every entry of the table (for putting in and taking out, also of the table that would be left) from −2^40 to 2^40?"
@@ -38,6 +41,8 @@ questions! {
     12 "Is every number of the placement a multiple of 1/65,536 in its range (factors from −2 to 2, offsets from −16,384 to \
         16,384), and every coordinate that is moved from −32,768 to 32,767?"
     13 "Does the record count at least as many edges as are taken out?"
+    14 "Is the sheet's side 1, 2, 4, 8, 16, 32, 64 or 128, and the tile's 1, 2, 4, 8, 16 or 32 and not larger than the sheet's?"
+    15 "Is the tile's place on the sheet, column and row being below the sheet's side / the tile's?"
 }
 
 impl Refusal {
@@ -68,7 +73,7 @@ mod tests {
     #[test]
     fn only_the_listed_numbers_are_refusals() {
         let numbers: Vec<u32> = (0..=300).filter(|&number| Refusal::of(number).is_some()).collect();
-        assert_eq!(numbers, [1, 2, 3, 4, 5, 6, 7, 8, 9, 10, 12, 13]);
+        assert_eq!(numbers, [1, 2, 3, 4, 5, 6, 7, 8, 9, 10, 12, 13, 14, 15]);
         assert!(numbers.iter().all(|&number| u32::from(Refusal::of(number).unwrap().number()) == number));
         assert_eq!(Refusal::of(u32::MAX), None);
     }

@@ -1,5 +1,5 @@
 //! A tile that keeps its table and the record of its edge count together.
-use crate::{Placement, Refusal};
+use crate::{Placement, Refusal, SheetTile};
 
 /// The greatest side of a tile.
 const GREATEST_SIDE: u32 = 64;
@@ -39,10 +39,15 @@ const GREATEST_SIDE: u32 = 64;
 /// What cannot be told is whether a contour is in, for a tile does not keep its contours. One that is not in is taken out like any other, if it has
 /// no more edges than are in; after that, table and edge count need not be those of any outline, until that contour is put in.
 ///
-/// Tiles are equal where side, edge count and table are: then every picture is the same.
+/// A tile of a sheet ([`on_sheet`](Tile::on_sheet), [`build_on_sheet`](Tile::build_on_sheet)) keeps its place too. Its contours lie on the sheet,
+/// and every correction of it is of the same sheet's side and the same place, as it has to be.
+///
+/// Tiles are equal where side, place on a sheet, edge count and table are: then every picture is the same, and stays so if both are corrected alike.
 #[derive(Clone, Debug, PartialEq, Eq)]
 pub struct Tile {
     side: u32,
+    /// Of a tile of a sheet, where it is; the side is its side.
+    place: Option<SheetTile>,
     edges: u32,
     table: Vec<i64>,
 }
@@ -55,11 +60,46 @@ impl Tile {
 
     /// The tile of an outline as placed: `points` has x and y of each point in turn, in steps, and `counts` how many points each contour has.
     pub fn build(side: u32, points: &[i64], counts: &[u32], placement: Placement) -> Result<Tile, Refusal> {
-        // The side is asked for before the table's length, so one that is too great needs no table of its own.
-        let across = side.min(GREATEST_SIDE);
-        let mut table = vec![0; (across * across) as usize];
+        let mut table = table(side);
         let edges = crate::build_placed(side, points, counts, placement, &mut table)?;
-        Ok(Tile { side, edges, table })
+        Ok(Tile { side, place: None, edges, table })
+    }
+
+    /// A tile of a sheet with nothing in it. It is refused where the sides are none that sheet and tile have (14), or the place is off the sheet
+    /// (15).
+    pub fn on_sheet(place: SheetTile) -> Result<Tile, Refusal> {
+        Tile::build_on_sheet(place, &[], &[], Placement::None)
+    }
+
+    /// The tile of a sheet on which this outline lies, as placed: as [`build`](Tile::build), with coordinates of the sheet.
+    ///
+    /// ```
+    /// # fn main() -> Result<(), Box<dyn std::error::Error>> {
+    /// use mattuliyan::{Placement, SheetTile, Tile};
+    ///
+    /// // a bar through the middle of a sheet of 4 pixels, in its lower left tile of 2, and a speck on another tile
+    /// let place = SheetTile { sheet: 4, side: 2, column: 0, row: 1 };
+    /// let bar = [0, 384, 1024, 384, 1024, 640, 0, 640];
+    /// let speck = [900, 100, 930, 100, 930, 130];
+    /// let mut tile = Tile::build_on_sheet(place, &[&bar[..], &speck].concat(), &[4, 3], Placement::None)?;
+    /// assert_eq!(tile.greys(1)?, [128, 128, 0, 0]);
+    ///
+    /// // what is corrected on a sheet is corrected in each of its tiles
+    /// tile.take(&speck, Placement::None)?;
+    /// assert_eq!(tile, Tile::build_on_sheet(place, &bar, &[4], Placement::None)?);
+    /// assert_eq!((tile.edges(), tile.place()), (4, Some(place)));
+    /// # Ok(())
+    /// # }
+    /// ```
+    pub fn build_on_sheet(
+        place: SheetTile,
+        points: &[i64],
+        counts: &[u32],
+        placement: Placement,
+    ) -> Result<Tile, Refusal> {
+        let mut table = table(place.side);
+        let edges = crate::build_on_sheet(place, points, counts, placement, &mut table)?;
+        Ok(Tile { side: place.side, place: Some(place), edges, table })
     }
 
     /// Puts a contour in: its points as placed, `points` having x and y of each in turn, in steps.
@@ -67,19 +107,32 @@ impl Tile {
     /// It has a point for every two numbers, from 3 to 1,024 points (else 4), and the edges that are in and its own are at most 1,024 (else 5).
     /// A last x without a y is refused (3). The call [`put`](crate::put) says which way round it should go.
     pub fn put(&mut self, points: &[i64], placement: Placement) -> Result<(), Refusal> {
-        crate::put(self.side, points, count(points.len()), placement, &mut self.edges, &mut self.table)
+        let (count, edges, table) = (count(points.len()), &mut self.edges, &mut self.table);
+        match self.place {
+            None => crate::put(self.side, points, count, placement, edges, table),
+            Some(place) => crate::put_on_sheet(place, points, count, placement, edges, table),
+        }
     }
 
     /// Takes a contour out again, as [`put`](Tile::put) put it in. It is known by its points as placed, in their order, so it may be taken out
     /// under another placement that leads to the same points; its reverse is another contour, as the call [`take`](crate::take) says. More edges
     /// than are in are refused (13); a contour that is not in is not.
     pub fn take(&mut self, points: &[i64], placement: Placement) -> Result<(), Refusal> {
-        crate::take(self.side, points, count(points.len()), placement, &mut self.edges, &mut self.table)
+        let (count, edges, table) = (count(points.len()), &mut self.edges, &mut self.table);
+        match self.place {
+            None => crate::take(self.side, points, count, placement, edges, table),
+            Some(place) => crate::take_on_sheet(place, points, count, placement, edges, table),
+        }
     }
 
     /// Pixels a side.
     pub fn side(&self) -> u32 {
         self.side
+    }
+
+    /// Where it is on its sheet, if it is a tile of one.
+    pub fn place(&self) -> Option<SheetTile> {
+        self.place
     }
 
     /// How many edges are in: at most 1,024.
@@ -117,6 +170,12 @@ impl Tile {
         let depth = self.side.trailing_zeros();
         1 << (2 * level.min(depth))
     }
+}
+
+/// A table for a tile of this side. The side is asked for before the table's length, so one that is too great needs no table of its own.
+fn table(side: u32) -> Vec<i64> {
+    let across = side.min(GREATEST_SIDE);
+    vec![0; (across * across) as usize]
 }
 
 /// The count of a contour with so many coordinates: its whole points. Where one coordinate is left over, that many points are not twice as many

@@ -1,13 +1,24 @@
 //! Lists as C takes them, in every length near the right ones. A placement of another length than 0, 1, 2 and 6 is 12, in that question's place;
-//! points and tables have one right length each, and what is refused for them is the first of these.
+//! points and tables have one right length each, and what is refused for them is the first of these. On a sheet that has no other tile, calls are
+//! answered as without one.
 use mattuliyan::{build_by_numbers, build_placed, put, put_by_numbers, take, take_by_numbers, Placement, Refusal};
+use mattuliyan::{build_on_sheet, build_on_sheet_by_numbers, put_on_sheet, put_on_sheet_by_numbers, take_on_sheet};
+use mattuliyan::{take_on_sheet_by_numbers, SheetTile};
 
 /// On a tile of 1 pixel, 01's letter C.
 const POINTS: [i64; 6] = [0, 0, 256, 0, 0, 256];
 
+/// The only tile of a sheet.
+fn only(side: u32) -> SheetTile {
+    SheetTile { sheet: side, side, column: 0, row: 0 }
+}
+
 fn answered(points: &[i64], numbers: &[f64]) -> (Result<u32, u8>, [i64; 1]) {
     let mut table = [7];
     let answer = build_by_numbers(1, points, &[3], numbers, &mut table);
+    let mut on_sheet = [7];
+    assert_eq!(build_on_sheet_by_numbers(only(1), points, &[3], numbers, &mut on_sheet), answer);
+    assert_eq!(on_sheet, table);
     (answer.map_err(|refusal| refusal.number()), table)
 }
 
@@ -15,9 +26,14 @@ fn answered(points: &[i64], numbers: &[f64]) -> (Result<u32, u8>, [i64; 1]) {
 type Corrected = (Result<(), u8>, u32, [i64; 1]);
 
 fn corrected(points: &[i64], numbers: &[f64]) -> [Corrected; 2] {
-    [put_by_numbers, take_by_numbers].map(|call| {
+    let calls: [(ByNumbers, ByNumbersOnSheet); 2] =
+        [(put_by_numbers, put_on_sheet_by_numbers), (take_by_numbers, take_on_sheet_by_numbers)];
+    calls.map(|(alone, on_sheet)| {
         let (mut edges, mut table) = (3, [7]);
-        let answer = call(1, points, 3, numbers, &mut edges, &mut table);
+        let answer = alone(1, points, 3, numbers, &mut edges, &mut table);
+        let (mut edges_there, mut table_there) = (3, [7]);
+        assert_eq!(on_sheet(only(1), points, 3, numbers, &mut edges_there, &mut table_there), answer);
+        assert_eq!((edges_there, table_there), (edges, table));
         (answer.map_err(Refusal::number), edges, table)
     })
 }
@@ -67,7 +83,15 @@ fn a_wrong_length_is_asked_for_after_3_and_before_6() {
 #[test]
 fn contours_and_tables_of_every_length() {
     let points: Vec<i64> = POINTS.repeat(3);
-    for call in [put, take] {
+    let on_sheet = [
+        (|side, points, count, placement, edges, table| {
+            put_on_sheet(only(side), points, count, placement, edges, table)
+        }) as Typed,
+        |side, points, count, placement, edges, table| {
+            take_on_sheet(only(side), points, count, placement, edges, table)
+        },
+    ];
+    for call in [put as Typed, take].into_iter().chain(on_sheet) {
         for length in 0..=points.len() {
             for count in 0..=points.len() as u32 {
                 for entries in 0..3 {
@@ -97,6 +121,7 @@ fn contours_and_tables_of_every_length() {
 
 type Typed = fn(u32, &[i64], u32, Placement, &mut u32, &mut [i64]) -> Result<(), Refusal>;
 type ByNumbers = fn(u32, &[i64], u32, &[f64], &mut u32, &mut [i64]) -> Result<(), Refusal>;
+type ByNumbersOnSheet = fn(SheetTile, &[i64], u32, &[f64], &mut u32, &mut [i64]) -> Result<(), Refusal>;
 
 #[test]
 fn each_placement_has_its_length() {
@@ -114,6 +139,9 @@ fn each_placement_has_its_length() {
         assert_eq!(build_placed(2, &points, &[3], placement, &mut table), Ok(3));
         assert_eq!(build_by_numbers(2, &points, &[3], numbers, &mut expected), Ok(3));
         assert_eq!(table, expected, "{placement:?}");
+        let mut on_sheet = [9; 4];
+        assert_eq!(build_on_sheet(only(2), &points, &[3], placement, &mut on_sheet), Ok(3));
+        assert_eq!(table, on_sheet, "{placement:?}");
         for (call, by_numbers, sign) in [(put as Typed, put_by_numbers as ByNumbers, 1), (take, take_by_numbers, -1)] {
             let (mut tile, mut other) = ((3, [0; 4]), (3, [0; 4]));
             assert_eq!(call(2, &points, 3, placement, &mut tile.0, &mut tile.1), Ok(()));

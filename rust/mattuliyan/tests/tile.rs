@@ -1,5 +1,5 @@
 //! `Tile`: what it refuses, that a refused call leaves it as it was, and that it is drawn as its table is.
-use mattuliyan::{Placement, Refusal, Tile};
+use mattuliyan::{Placement, Refusal, SheetTile, Tile};
 
 /// On a tile of 2 pixels, 01's letters A, F and G.
 const A: [i64; 8] = [0, 0, 256, 0, 256, 256, 0, 256];
@@ -157,6 +157,99 @@ fn drawn_as_the_table_is() {
             assert_eq!(number(tile.figures(level)), Err(7), "side {side}, level {level}");
             assert_eq!(number(tile.greys(level)), Err(7), "side {side}, level {level}");
             assert_eq!(number(tile.cell(level, 0, 0)), Err(7), "side {side}, level {level}");
+        }
+    }
+}
+
+fn at(sheet: u32, side: u32, column: u32, row: u32) -> SheetTile {
+    SheetTile { sheet, side, column, row }
+}
+
+#[test]
+fn tiles_of_sheets() {
+    for sheet in [1u32, 2, 4, 8, 16, 32, 64, 128] {
+        for side in [1, 2, 4, 8, 16, 32] {
+            let last = (sheet / side).saturating_sub(1);
+            let place = at(sheet, side, 0, last);
+            let made = number(Tile::on_sheet(place));
+            if side > sheet {
+                assert_eq!(made, Err(14), "{place:?}");
+                continue;
+            }
+            let tile = made.unwrap();
+            assert_eq!((tile.side(), tile.place(), tile.edges()), (side, Some(place), 0));
+            assert_eq!(tile.table(), vec![0; (side * side) as usize]);
+            for off in [last + 1, sheet, 1 << 27, 1 << 31, u32::MAX] {
+                for place in [at(sheet, side, off, 0), at(sheet, side, 0, off), at(sheet, side, off, off)] {
+                    assert_eq!(number(Tile::on_sheet(place)), Err(15), "{place:?}");
+                    assert_eq!(number(Tile::build_on_sheet(place, &[1], &[2], Placement::Scale(f64::NAN))), Err(15));
+                }
+            }
+        }
+    }
+    // no table is made for a side that is too great
+    for (sheet, side) in
+        [(0, 0), (3, 1), (4, 3), (96, 32), (64, 64), (128, 64), (256, 1), (128, 1 << 16), (u32::MAX, u32::MAX)]
+    {
+        assert_eq!(number(Tile::on_sheet(at(sheet, side, 0, 0))), Err(14), "a tile of {side} on a sheet of {sheet}");
+        assert_eq!(number(Tile::on_sheet(at(sheet, side, u32::MAX, u32::MAX))), Err(14));
+    }
+}
+
+#[test]
+fn corrected_on_a_sheet() {
+    // a bar across a sheet of 4, of which each tile of 2 has a half or nothing
+    let bar = [0, 128, 1024, 128, 1024, 384, 0, 384];
+    let upper = [128, 128, 128, 128];
+    for (column, row, greys) in [(0, 0, upper), (1, 0, upper), (0, 1, [0; 4]), (1, 1, [0; 4])] {
+        let place = at(4, 2, column, row);
+        let mut tile = Tile::on_sheet(place).unwrap();
+        tile.put(&bar, Placement::None).unwrap();
+        assert_eq!((tile.edges(), tile.greys(1).unwrap()), (4, greys.to_vec()));
+        let mut table = [7; 4];
+        assert_eq!(mattuliyan::build_on_sheet(place, &bar, &[4], Placement::None, &mut table), Ok(4));
+        assert_eq!(tile.table(), table);
+        assert_eq!(tile, Tile::build_on_sheet(place, &bar, &[4], Placement::None).unwrap());
+
+        // F over two tiles, in under one placement and out under another
+        let f = [0, 0, 768, 1, 0, 1];
+        tile.put(&f.map(|c| c - 5), Placement::Shift(5.0, 5.0)).unwrap();
+        assert_eq!(tile.edges(), 7);
+        assert_eq!(tile, Tile::build_on_sheet(place, &[&f[..], &bar].concat(), &[3, 4], Placement::None).unwrap());
+        tile.take(&f, Placement::Scale(1.0)).unwrap();
+        tile.take(&bar, Placement::None).unwrap();
+        assert_eq!(tile, Tile::on_sheet(place).unwrap());
+    }
+
+    // on the sheet, and off a tile alone
+    let mut alone = Tile::new(2).unwrap();
+    assert_eq!(number(alone.put(&bar, Placement::None)), Err(6));
+    // the same side, edges and table, but contours that lie elsewhere
+    assert_ne!(Tile::on_sheet(at(2, 2, 0, 0)).unwrap(), alone);
+    assert_ne!(Tile::on_sheet(at(4, 2, 0, 0)).unwrap(), Tile::on_sheet(at(4, 2, 0, 1)).unwrap());
+    assert_eq!(Tile::on_sheet(at(4, 2, 0, 0)).unwrap().table(), alone.table());
+    assert_eq!(alone.place(), None);
+}
+
+#[test]
+fn refused_on_a_sheet() {
+    let tile = Tile::build_on_sheet(at(4, 2, 1, 1), &[F, F].concat(), &[3, 3], Placement::None).unwrap();
+    for (points, placement, put, taken) in [
+        (&[0; 4][..], Placement::None, Err(4), Err(4)),
+        (&[0; 7], Placement::None, Err(3), Err(3)),
+        (&[0; 2 * 1018], Placement::None, Ok(1024), Err(13)),
+        (&[0; 2 * 1019], Placement::None, Err(5), Err(13)),
+        (&A, Placement::Scale(f64::INFINITY), Err(12), Err(12)),
+        (&A, Placement::Shift(0.0, 768.0), Ok(10), Ok(2)),
+        (&A, Placement::Shift(0.0, 769.0), Err(6), Err(6)),
+        (&[0; 14], Placement::None, Ok(13), Err(13)),
+    ] {
+        for (call, expected) in [(Tile::put as fn(&mut Tile, &[i64], Placement) -> _, put), (Tile::take, taken)] {
+            let mut corrected = tile.clone();
+            let answer = call(&mut corrected, points, placement);
+            assert_eq!(number(answer.map(|()| corrected.edges())), expected, "{} numbers", points.len());
+            assert!(expected.is_ok() || corrected == tile);
+            assert_eq!(corrected.place(), tile.place());
         }
     }
 }
