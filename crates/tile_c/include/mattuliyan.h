@@ -1,4 +1,4 @@
-/* Grey tiles from traced outlines: the seven calls of the proved library libtile_c.a, which `rt staticlib tile_c` makes.
+/* Grey tiles from traced outlines: the ten calls of the proved library libtile_c.a, which `rt staticlib tile_c` makes.
  *
  * A tile is a square of 1, 2, 4, 8, 16, 32 or 64 pixels a side; a step is 1/256 pixel; x grows to the right, y downwards. An outline is
  * closed contours of whole points, letters clockwise as seen on the page, the holes in them anticlockwise, or all of it the other way round:
@@ -8,21 +8,26 @@
  * A table with a record of its edge count is a tile, into which single contours are put and out of which they are taken again. As long as each
  * contour taken out was in, table and record are those of building the contours that remain.
  *
+ * A letter that is wider than a tile lies on a sheet, a square of 1, 2, 4, 8, 16, 32, 64 or 128 pixels a side, and is drawn tile by tile, in
+ * tiles of 1, 2, 4, 8, 16 or 32 pixels, each at its place on the sheet.
+ *
  * Each call answers 0 where the work is done, or the number of the first question that is answered no. Then no table, no picture and no
- * record has changed; but mattuliyan_build and mattuliyan_build_placed then write 0 to *edges, and mattuliyan_cell to *figure. (So the
- * record of a tile in use is not to be handed to building: where that is refused the table stays, and the record would be gone.) The
- * questions, in each call's order:
+ * record has changed; but mattuliyan_build, mattuliyan_build_placed and mattuliyan_build_on_sheet then write 0 to *edges, and mattuliyan_cell
+ * to *figure. (So the record of a tile in use is not to be handed to building: where that is refused the table stays, and the record would be
+ * gone.) The questions, in each call's order:
  *
  *   building: 1, 2, 4, 5, 3, 6      building with a placement: 1, 2, 4, 5, 3, 12, 6
  *   putting in: 1, 2, 4, 5, 3, 12, 6, 9      taking out: 1, 2, 4, 5, 3, 12, 6, 13, 9
+ *   on a sheet, building: 14, 15, 2, 4, 5, 3, 12, 6
+ *   on a sheet, putting in: 14, 15, 2, 4, 5, 3, 12, 6, 9      taking out: 14, 15, 2, 4, 5, 3, 12, 6, 13, 9
  *   pictures and greys: 1, 2, 7, 8, 9      one cell: 1, 2, 7, 10, 9
  *
  *    1  Is the side 1, 2, 4, 8, 16, 32 or 64?
- *    2  Has the table exactly side x side entries?
+ *    2  Has the table exactly side x side entries? (On a sheet, the side is the tile's.)
  *    3  Are the points exactly twice as many numbers as the counts' sum? (Putting in and taking out have one count.)
  *    4  Is every count from 3 to 1,024?
  *    5  Is the counts' sum at most 1,024? For putting in: the record's count and the contour's together. (Taking out is never answered 5.)
- *    6  Is every coordinate, as placed, from 0 to 256 x side?
+ *    6  Is every coordinate, as placed, from 0 to 256 x side? On a sheet: to 256 x sheet, the sheet's side.
  *    7  Is the level at most the depth, the number of halvings from the side to 1?
  *    8  Has the picture exactly 4^level places?
  *    9  Is every entry of the table from -2^40 to 2^40? For putting in and taking out: of the table as it is, and of the one that the call
@@ -31,6 +36,8 @@
  *   12  Is every number of the placement a multiple of 1/65,536 in its range (factors from -2 to 2, offsets from -16,384 to 16,384), and
  *       every coordinate that is moved from -32,768 to 32,767?
  *   13  Does the record count at least as many edges as are taken out?
+ *   14  Is the sheet's side 1, 2, 4, 8, 16, 32, 64 or 128, and the tile's 1, 2, 4, 8, 16 or 32 and not larger than the sheet's?
+ *   15  Is the tile's place on the sheet: are column and row both below the sheet's side / the tile's?
  *
  * Numbers may be any. What the caller owes, since no function can ask it: a pointer is not NULL, even where its length is 0, is aligned for
  * what it points to, and as many elements as its length says are there; what is written overlaps nothing else that is passed; meanwhile
@@ -78,6 +85,30 @@ uint32_t mattuliyan_put(uint32_t side, const int64_t *points, size_t points_leng
  * should be taken out: the call cannot tell, and takes out any that passes its questions. */
 uint32_t mattuliyan_take(uint32_t side, const int64_t *points, size_t points_length, uint32_t count, const double *placement,
                          size_t placement_length, uint32_t *edges, int64_t *table, size_t table_length);
+
+/* As mattuliyan_build_placed, of one tile of a sheet: the outline lies on the sheet, its coordinates are from the sheet's upper left corner, and
+ * it may lie on the tile or beyond. sheet and side are the sides of sheet and tile, in pixels; column and row are how many tiles lie to the left
+ * of the tile and above it. *edges becomes the number of all edges of the outline. The table has side x side entries, and is drawn as any other,
+ * with the tile's side.
+ *
+ * Its root, entry 0, is the tile's own area and no longer the outline's: the sum over all edges of each one's exact part of it, rounded to the
+ * nearest unit, halves away from zero. A figure may so miss 4^level times the exact area by 4^level x edges / 2, and by nothing where every edge
+ * is level, upright or at 45 degrees; a grey is at most one from the exact area's. */
+uint32_t mattuliyan_build_on_sheet(uint32_t sheet, uint32_t side, uint32_t column, uint32_t row, const int64_t *points,
+                                   size_t points_length, const uint32_t *counts, size_t counts_length, const double *placement,
+                                   size_t placement_length, int64_t *table, size_t table_length, uint32_t *edges);
+
+/* As mattuliyan_put, into one tile of a sheet, which is told as to mattuliyan_build_on_sheet; the contour lies on the sheet, and all its edges
+ * are counted. A tile that is corrected keeps one sheet side and one place through all corrections: nothing in a table tells them, and no call
+ * can ask. */
+uint32_t mattuliyan_put_on_sheet(uint32_t sheet, uint32_t side, uint32_t column, uint32_t row, const int64_t *points,
+                                 size_t points_length, uint32_t count, const double *placement, size_t placement_length,
+                                 uint32_t *edges, int64_t *table, size_t table_length);
+
+/* As mattuliyan_take, out of one tile of a sheet, likewise. */
+uint32_t mattuliyan_take_on_sheet(uint32_t sheet, uint32_t side, uint32_t column, uint32_t row, const int64_t *points,
+                                  size_t points_length, uint32_t count, const double *placement, size_t placement_length,
+                                  uint32_t *edges, int64_t *table, size_t table_length);
 
 /* Draws the figures of a level, row by row from the top left: 4^level times each cell's area, in units of which 131,072 are a pixel. */
 uint32_t mattuliyan_figures(uint32_t side, uint32_t level, const int64_t *table, size_t table_length, int64_t *picture,

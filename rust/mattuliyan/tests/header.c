@@ -1,5 +1,5 @@
-/* 01's letter F through the C header, its letter G by a shift, G put in and taken out, and refusals of each call: prints what is answered and
- * left, one line a call. */
+/* 01's letter F through the C header, its letter G by a shift, G put in and taken out, both on a sheet, and refusals of each call: prints what
+ * is answered and left, one line a call. */
 #include "mattuliyan.h"
 
 #include <inttypes.h>
@@ -58,6 +58,44 @@ static void correct(void) {
     print_tile(number, edges, table);
 }
 
+/* On a sheet of 4, builds F and G in tiles of 2, and puts them in and takes them out. */
+static void on_sheet(void) {
+    const int64_t f[] = {512, 0, 896, 1, 512, 1}; /* in the second tile */
+    const int64_t across[] = {0, 0, 768, 1, 0, 1}; /* like F, twice as wide */
+    const int64_t g_off_by_halves[] = {512, 7, 516, 8, 512, 8};
+    const double shift[] = {254.5, -7.5};
+    const uint32_t counts[] = {3};
+    int64_t table[] = {7, 7, 7, 7};
+    uint32_t edges = 7, number;
+
+    /* building: refused for its sides and its place, in a tile where F is not and in its own, and over two tiles */
+    number = mattuliyan_build_on_sheet(4, 3, 1, 0, f, 6, counts, 1, shift, 0, table, 4, &edges);
+    print_tile(number, edges, table);
+    number = mattuliyan_build_on_sheet(4, 2, 1, 2, f, 6, counts, 1, shift, 0, table, 4, &edges);
+    print_tile(number, edges, table);
+    number = mattuliyan_build_on_sheet(4, 2, 0, 1, f, 6, counts, 1, shift, 0, table, 4, &edges);
+    print_tile(number, edges, table);
+    number = mattuliyan_build_on_sheet(4, 2, 0, 0, across, 6, counts, 1, shift, 0, table, 4, &edges);
+    print_tile(number, edges, table);
+    number = mattuliyan_build_on_sheet(4, 2, 1, 0, f, 6, counts, 1, shift, 0, table, 4, &edges);
+    print_tile(number, edges, table);
+
+    /* putting in: refused for its place, done by a shift */
+    number = mattuliyan_put_on_sheet(4, 2, 2, 0, g_off_by_halves, 6, 3, shift, 2, &edges, table, 4);
+    print_tile(number, edges, table);
+    number = mattuliyan_put_on_sheet(4, 2, 1, 0, g_off_by_halves, 6, 3, shift, 2, &edges, table, 4);
+    print_tile(number, edges, table);
+
+    /* taking out: refused for its sides, done, and refused for its edges */
+    number = mattuliyan_take_on_sheet(128, 64, 1, 0, f, 6, 3, shift, 0, &edges, table, 4);
+    print_tile(number, edges, table);
+    number = mattuliyan_take_on_sheet(4, 2, 1, 0, f, 6, 3, shift, 0, &edges, table, 4);
+    print_tile(number, edges, table);
+    edges = 2;
+    number = mattuliyan_take_on_sheet(4, 2, 1, 0, g_off_by_halves, 6, 3, shift, 2, &edges, table, 4);
+    print_tile(number, edges, table);
+}
+
 int main(void) {
     const int64_t points[] = {0, 0, 384, 1, 0, 1};
     const int64_t off_by_halves[] = {0, 7, 4, 8, 0, 8}; /* as shifted, (255,0) (259,1) (255,1) */
@@ -91,5 +129,6 @@ int main(void) {
     number = mattuliyan_cell(2, 1, 1, 0, table, 4, &figure);
     printf("%" PRIu32 " %" PRId64 "\n", number, figure);
     correct();
+    on_sheet();
     return 0;
 }

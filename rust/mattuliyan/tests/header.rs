@@ -75,7 +75,7 @@ fn declarations_agree() {
     let header = in_one_line(&read("crates/tile_c/include/mattuliyan.h"));
     let wrapper = in_one_line(&read("rust/mattuliyan/src/lib.rs"));
     let exported = between(&source, "#[no_mangle] pub extern \"C\" fn ", " ensures ");
-    assert_eq!(exported.len(), 7);
+    assert_eq!(exported.len(), 10);
 
     let mut in_c = Vec::new();
     let mut in_rust = Vec::new();
@@ -100,12 +100,17 @@ fn declarations_agree() {
         let list: Vec<String> = list.iter().map(|(name, kind)| format!("{name}: {kind}")).collect();
         in_rust.push(format!("{name}({}) -> u32", list.join(", ")));
     }
-    assert_eq!(
-        between(&header, "uint32_t mattuliyan_", ";").iter().map(|d| format!("mattuliyan_{d}")).collect::<Vec<_>>(),
-        in_c
-    );
+    // each may list them in an order of its own
+    let sorted = |mut list: Vec<String>| {
+        list.sort();
+        list
+    };
+    let (in_c, in_rust) = (sorted(in_c), sorted(in_rust));
+    let declared = between(&header, "uint32_t mattuliyan_", ";").iter().map(|d| format!("mattuliyan_{d}")).collect();
+    assert_eq!(sorted(declared), in_c);
     let block = wrapper.split("extern \"C\" {").nth(1).unwrap();
-    assert_eq!(between(block.split(" } }").next().unwrap(), "pub fn ", ";"), in_rust);
+    let declared = between(block.split(" } }").next().unwrap(), "pub fn ", ";").iter().map(|d| d.to_string()).collect();
+    assert_eq!(sorted(declared), in_rust);
 
     let symbols = run(Command::new("nm").args([
         "--extern-only",
@@ -113,11 +118,9 @@ fn declarations_agree() {
         "--format=just-symbols",
         env!("TILE_C_ARCHIVE"),
     ]));
-    let mut symbols: Vec<&str> = symbols.lines().filter(|line| !line.is_empty() && !line.ends_with(':')).collect();
-    let mut names: Vec<&str> = in_c.iter().map(|d| d.split('(').next().unwrap()).collect();
-    symbols.sort();
-    names.sort();
-    assert_eq!(symbols, names);
+    let symbols = symbols.lines().filter(|line| !line.is_empty() && !line.ends_with(':'));
+    let names = in_c.iter().map(|d| d.split('(').next().unwrap().to_string()).collect();
+    assert_eq!(sorted(symbols.map(str::to_string).collect()), sorted(names));
 }
 
 /// What a C program of this folder prints.
@@ -153,17 +156,30 @@ fn answers_in_c() {
         "0 0 0 0 0 0",
         "13 0 0 0 0 0",
     ];
-    let corrections: String = put.into_iter().chain(taken).map(|line| format!("{line}\n")).collect();
-    assert_eq!(printed_in_c("header"), answers.to_string() + &corrections);
+    let on_sheet = [
+        "14 0 7 7 7 7",
+        "15 0 7 7 7 7",
+        "0 3 0 0 0 0",
+        "0 3 683 171 683 171",
+        "0 3 384 299 384 299",
+        "15 3 384 299 384 299",
+        "0 6 388 299 388 299",
+        "14 6 388 299 388 299",
+        "0 3 4 0 4 0",
+        "13 2 4 0 4 0",
+    ];
+    let tiles = put.into_iter().chain(taken).chain(on_sheet).map(|line| format!("{line}\n"));
+    assert_eq!(printed_in_c("header"), answers.to_string() + &tiles.collect::<String>());
 }
 
 #[test]
 fn no_entry_is_read_after_the_first_out_of_range() {
     let printed = printed_in_c("reads");
-    assert_eq!(printed.lines().count(), 5 * 16);
+    assert_eq!(printed.lines().count(), 7 * 16);
     for line in printed.lines() {
         // where the last entry of all is in range, there is none after it to be read
-        let expected = if line.contains(" 4095:") { "9 0" } else { "9 x" };
+        let last = [" 4095 of 4096:", " 1023 of 1024:"].iter().any(|last| line.contains(last));
+        let expected = if last { "9 0" } else { "9 x" };
         assert_eq!(line.split_once(": ").map(|(_, answers)| answers), Some(expected), "{line}");
     }
 }

@@ -17,6 +17,8 @@
 
 enum { SIDE = 64, LEVEL = 6, ENTRIES = SIDE * SIDE };
 
+enum { SHEET = 128, SIDE_ON_SHEET = 32, ENTRIES_ON_SHEET = SIDE_ON_SHEET * SIDE_ON_SHEET };
+
 enum { STOPPED = 100, STOPPED_ELSEWHERE }; /* exit statuses: no question has these numbers */
 
 static const int64_t most = INT64_C(1) << 40; /* that question 9 lets pass */
@@ -52,6 +54,16 @@ static uint32_t take(int64_t *table) {
     return mattuliyan_take(SIDE, points, 6, 3, placement, 1, &edges, table, ENTRIES);
 }
 
+static uint32_t put_on_sheet(int64_t *table) {
+    uint32_t edges = 3;
+    return mattuliyan_put_on_sheet(SHEET, SIDE_ON_SHEET, 2, 1, points, 6, 3, placement, 1, &edges, table, ENTRIES_ON_SHEET);
+}
+
+static uint32_t take_on_sheet(int64_t *table) {
+    uint32_t edges = 3;
+    return mattuliyan_take_on_sheet(SHEET, SIDE_ON_SHEET, 2, 1, points, 6, 3, placement, 1, &edges, table, ENTRIES_ON_SHEET);
+}
+
 static void fail(const char *what) {
     perror(what);
     exit(1);
@@ -74,9 +86,21 @@ static void answer(uint32_t (*call)(int64_t *), int64_t *table) {
 }
 
 int main(void) {
-    static uint32_t (*const calls[])(int64_t *) = {figures, greys, cell, put, take};
-    static const char *const names[] = {"figures", "greys", "cell", "put", "take"};
-    static const size_t places[] = {0, 1, 2, 3, 4, 7, 8, 15, 16, 63, 64, 511, 512, 1000, ENTRIES - 2, ENTRIES - 1};
+    static const struct {
+        const char *name;
+        uint32_t (*call)(int64_t *);
+        size_t entries;
+    } calls[] = {
+        {"figures", figures, ENTRIES},
+        {"greys", greys, ENTRIES},
+        {"cell", cell, ENTRIES},
+        {"put", put, ENTRIES},
+        {"take", take, ENTRIES},
+        {"put on a sheet", put_on_sheet, ENTRIES_ON_SHEET},
+        {"take on a sheet", take_on_sheet, ENTRIES_ON_SHEET},
+    };
+    static const size_t first[] = {0, 1, 2, 3, 4, 7, 8, 15, 16, 63, 64, 511, 512, 1000}; /* and the last two of each table */
+    const size_t places = sizeof first / sizeof *first + 2;
     const struct sigaction action = {.sa_sigaction = stop, .sa_flags = SA_SIGINFO};
     const size_t page = (size_t)sysconf(_SC_PAGESIZE);
     const size_t bytes = (ENTRIES * sizeof(int64_t) + page - 1) / page * page;
@@ -87,14 +111,15 @@ int main(void) {
     if (mprotect(end, bytes, PROT_NONE) != 0) fail("mprotect");
     if (sigaction(SIGSEGV, &action, NULL) != 0 || sigaction(SIGBUS, &action, NULL) != 0) fail("sigaction");
     for (size_t c = 0; c < sizeof calls / sizeof *calls; c++) {
-        for (size_t p = 0; p < sizeof places / sizeof *places; p++) {
-            int64_t *table = end - (places[p] + 1); /* so that the place is the last that can be read */
+        for (size_t p = 0; p < places; p++) {
+            size_t place = p + 2 < places ? first[p] : calls[c].entries + p - places;
+            int64_t *table = end - (place + 1); /* so that the place is the last that can be read */
             for (int64_t *entry = table; entry < end; entry++) *entry = (entry - table) % 2 ? most : -most;
-            printf("%s %zu:", names[c], places[p]);
+            printf("%s %zu of %zu:", calls[c].name, place, calls[c].entries);
             end[-1] = p % 2 ? most + 1 : -most - 1;
-            answer(calls[c], table);
+            answer(calls[c].call, table);
             end[-1] = p % 2 ? most : -most;
-            answer(calls[c], table);
+            answer(calls[c].call, table);
             printf("\n");
         }
     }
