@@ -1,7 +1,7 @@
 //! One call of the library beside the same call of the reference: equal answers, equal buffers afterwards, and nothing else written.
-use crate::placements;
+use crate::{placements, sheets};
 use mattuliyan::Refusal;
-use reference::{Correction, Placement, Rules};
+use reference::{Correction, Placement, Rules, SheetTile};
 use std::fmt::{Debug, Display, Formatter};
 
 /// What is answered or left otherwise than the reference says, in words.
@@ -49,6 +49,46 @@ pub fn build_placed(
     }))
 }
 
+/// Building one tile of a sheet, likewise.
+pub fn build_on_sheet(
+    rules: &dyn Rules,
+    place: SheetTile,
+    points: &[i64],
+    counts: &[u32],
+    placement: Placement,
+    held: &[i64],
+) -> Result<Result<(u32, Vec<i64>), u8>, Difference> {
+    let expected = reference::build_on_sheet(rules, place, points, counts, placement, held);
+    let there = sheets::for_library(place);
+    let numbers = placements::numbers(placement);
+    let lent = Guarded::new(&numbers);
+    let by_numbers = built("build_on_sheet_by_numbers", points, counts, held, &expected, |points, counts, table| {
+        mattuliyan::build_on_sheet_by_numbers(there, points, counts, lent.get(), table)
+    });
+    lent.same("the numbers after build_on_sheet_by_numbers", &numbers)?;
+    by_numbers.and(built("build_on_sheet", points, counts, held, &expected, |points, counts, table| {
+        mattuliyan::build_on_sheet(there, points, counts, placements::for_library(placement), table)
+    }))
+}
+
+/// Building on either ground. Where there is no placement, a tile alone has a call of its own.
+pub fn build_on(
+    rules: &dyn Rules,
+    ground: Ground,
+    points: &[i64],
+    counts: &[u32],
+    placement: Option<Placement>,
+    held: &[i64],
+) -> Result<Result<(u32, Vec<i64>), u8>, Difference> {
+    match (ground, placement) {
+        (Ground::Tile(side), None) => build(rules, side, points, counts, held),
+        (Ground::Tile(side), Some(placement)) => build_placed(rules, side, points, counts, placement, held),
+        (Ground::Sheet(place), placement) => {
+            build_on_sheet(rules, place, points, counts, placement.unwrap_or_default(), held)
+        }
+    }
+}
+
 fn built(
     name: &str,
     points: &[i64],
@@ -67,6 +107,31 @@ fn built(
     Ok(answer.map(|edges| (edges, table.get().to_vec())))
 }
 
+/// What the contours of a tile lie on: the tile alone, of this side, or a sheet.
+#[derive(Clone, Copy, Debug, PartialEq)]
+pub enum Ground {
+    Tile(u32),
+    Sheet(SheetTile),
+}
+
+impl Ground {
+    /// The tile's side.
+    pub fn side(self) -> u32 {
+        match self {
+            Ground::Tile(side) => side,
+            Ground::Sheet(place) => place.side,
+        }
+    }
+
+    /// The side of what the contours lie on: a coordinate is at most 256 times it.
+    pub fn reach(self) -> u32 {
+        match self {
+            Ground::Tile(side) => side,
+            Ground::Sheet(place) => place.sheet,
+        }
+    }
+}
+
 /// A tile: a table with the record of its edge count.
 #[derive(Clone, Debug, PartialEq)]
 pub struct Tile {
@@ -78,7 +143,7 @@ pub struct Tile {
 #[derive(Clone, Debug)]
 pub struct Correcting {
     pub correction: Correction,
-    pub side: u32,
+    pub ground: Ground,
     pub points: Vec<i64>,
     pub count: u32,
     pub placement: Placement,
@@ -89,32 +154,67 @@ pub struct Correcting {
 /// Correcting a tile: what the library answers, and the tile that it leaves where it is done, which the reference says too. It is called by the
 /// placement's type and by its numbers, as for building.
 pub fn correct(rules: &dyn Rules, call: &Correcting) -> Result<Result<Tile, u8>, Difference> {
-    let Correcting { correction, side, ref points, count, placement, ref tile } = *call;
-    let (name, by_reference) = match correction {
-        Correction::PutIn => ("put", reference::put as fn(&dyn Rules, _, &[i64], _, _, &mut _, &mut [i64]) -> _),
-        Correction::TakeOut => ("take", reference::take as _),
-    };
-    let mut left = tile.clone();
-    let answer: Result<(), u8> = by_reference(rules, side, points, count, placement, &mut left.record, &mut left.table);
+    let Correcting { count, placement, .. } = *call;
+    let (name, left, answer) = expected(rules, call);
 
     let numbers = placements::numbers(placement);
     let lent = Guarded::new(&numbers);
     corrected(&format!("{name}_by_numbers"), call, answer, &left, |points, edges, table| {
-        let by_numbers = match correction {
-            Correction::PutIn => mattuliyan::put_by_numbers,
-            Correction::TakeOut => mattuliyan::take_by_numbers,
-        };
-        by_numbers(side, points, count, lent.get(), edges, table)
+        let by_numbers = lent.get();
+        match (call.ground, call.correction) {
+            (Ground::Tile(side), Correction::PutIn) => {
+                mattuliyan::put_by_numbers(side, points, count, by_numbers, edges, table)
+            }
+            (Ground::Tile(side), Correction::TakeOut) => {
+                mattuliyan::take_by_numbers(side, points, count, by_numbers, edges, table)
+            }
+            (Ground::Sheet(place), Correction::PutIn) => {
+                let place = sheets::for_library(place);
+                mattuliyan::put_on_sheet_by_numbers(place, points, count, by_numbers, edges, table)
+            }
+            (Ground::Sheet(place), Correction::TakeOut) => {
+                let place = sheets::for_library(place);
+                mattuliyan::take_on_sheet_by_numbers(place, points, count, by_numbers, edges, table)
+            }
+        }
     })?;
     lent.same(&format!("the numbers after {name}_by_numbers"), &numbers)?;
     corrected(name, call, answer, &left, |points, edges, table| {
-        let by_type = match correction {
-            Correction::PutIn => mattuliyan::put,
-            Correction::TakeOut => mattuliyan::take,
-        };
-        by_type(side, points, count, placements::for_library(placement), edges, table)
+        let by_type = placements::for_library(placement);
+        match (call.ground, call.correction) {
+            (Ground::Tile(side), Correction::PutIn) => mattuliyan::put(side, points, count, by_type, edges, table),
+            (Ground::Tile(side), Correction::TakeOut) => mattuliyan::take(side, points, count, by_type, edges, table),
+            (Ground::Sheet(place), Correction::PutIn) => {
+                mattuliyan::put_on_sheet(sheets::for_library(place), points, count, by_type, edges, table)
+            }
+            (Ground::Sheet(place), Correction::TakeOut) => {
+                mattuliyan::take_on_sheet(sheets::for_library(place), points, count, by_type, edges, table)
+            }
+        }
     })?;
     Ok(answer.map(|()| left))
+}
+
+/// The call's name, and by the reference the tile that it leaves and what it answers.
+fn expected(rules: &dyn Rules, call: &Correcting) -> (&'static str, Tile, Result<(), u8>) {
+    let Correcting { correction, ground, ref points, count, placement, ref tile } = *call;
+    let mut left = tile.clone();
+    let Tile { record, table } = &mut left;
+    let (name, answer) = match (ground, correction) {
+        (Ground::Tile(side), Correction::PutIn) => {
+            ("put", reference::put(rules, side, points, count, placement, record, table))
+        }
+        (Ground::Tile(side), Correction::TakeOut) => {
+            ("take", reference::take(rules, side, points, count, placement, record, table))
+        }
+        (Ground::Sheet(place), Correction::PutIn) => {
+            ("put_on_sheet", reference::put_on_sheet(rules, place, points, count, placement, record, table))
+        }
+        (Ground::Sheet(place), Correction::TakeOut) => {
+            ("take_on_sheet", reference::take_on_sheet(rules, place, points, count, placement, record, table))
+        }
+    };
+    (name, left, answer)
 }
 
 /// Does a call of the library answer this, and leave this tile?
@@ -150,12 +250,17 @@ pub fn correct_owned(
     lent_points.same("the points after a tile's own call", &call.points)?;
     let answered = expected.as_ref().map(|_| ()).map_err(|&number| number);
     same("what a tile's own call answers", &answer.map_err(Refusal::number), &answered)?;
-    same_owned(owned, call.side, expected.as_ref().unwrap_or(&call.tile))
+    same_owned(owned, call.ground, expected.as_ref().unwrap_or(&call.tile))
 }
 
 /// Is a tile of the library's own type this one?
-pub fn same_owned(owned: &mattuliyan::Tile, side: u32, expected: &Tile) -> Result<(), Difference> {
-    same("the side of a tile", &owned.side(), &side)?;
+pub fn same_owned(owned: &mattuliyan::Tile, ground: Ground, expected: &Tile) -> Result<(), Difference> {
+    let place = match ground {
+        Ground::Tile(_) => None,
+        Ground::Sheet(place) => Some(sheets::for_library(place)),
+    };
+    same("the side of a tile", &owned.side(), &ground.side())?;
+    same("the place of a tile", &owned.place(), &place)?;
     same("the edge count of a tile", &owned.edges(), &expected.record)?;
     same_list("the table of a tile", owned.table(), &expected.table)
 }

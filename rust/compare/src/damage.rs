@@ -1,9 +1,10 @@
 //! Calls that may be refused: sound ones with some part damaged, often two parts, so that the order of the questions matters.
-use crate::calls::{Correcting, Tile};
+use crate::calls::{Correcting, Ground, Tile};
 use crate::outlines::{Outline, MOST_EDGES, SIDES};
 use crate::placements::{self, FACTOR, HIGHEST, LOWEST, OFFSET, PART};
 use crate::random::Random;
-use reference::{Correction, Limits, Placement, STEPS};
+use crate::sheets::{self, PAIRS};
+use reference::{Correction, Limits, Placement, SheetTile, STEPS};
 
 /// Question 9: an entry's limit, either way.
 pub const ENTRY_LIMIT: i64 = Limits::SPEC.largest_entry;
@@ -12,6 +13,9 @@ pub const ENTRY_LIMIT: i64 = Limits::SPEC.largest_entry;
 const BEYOND_16_BITS: u32 = 1 << 16;
 /// Numbers that are no side of a tile: small ones, the next powers of two, the ends.
 const NO_SIDES: [u32; 10] = [0, 3, 15, 17, 31, 63, 65, 128, 1 << 31, u32::MAX];
+/// Numbers that are no side of a sheet, likewise, and numbers that are no side of a tile on one.
+const NO_SHEETS: [u32; 9] = [0, 3, 33, 96, 127, 129, 256, 1 << 31, u32::MAX];
+const NO_SIDES_ON_SHEET: [u32; 9] = [0, 3, 12, 31, 33, 64, 128, 1 << 31, u32::MAX];
 /// Counts that no contour has.
 const NO_COUNTS: [u32; 9] = [0, 1, 2, 1025, 2000, BEYOND_16_BITS + 3, BEYOND_16_BITS + 1024, 1 << 31, u32::MAX];
 /// Levels past every depth, some of which would shift a word out of its width.
@@ -56,7 +60,7 @@ const FLOATS: [f64; 20] = [
 ];
 
 pub struct Building {
-    pub side: u32,
+    pub ground: Ground,
     pub points: Vec<i64>,
     pub counts: Vec<u32>,
     pub table: Vec<i64>,
@@ -83,26 +87,26 @@ pub fn table_in_range(random: &mut Random, length: usize) -> Vec<i64> {
     (0..length).map(|_| if extreme { random.pick(&[limit, -limit]) } else { random.within(-limit, limit) }).collect()
 }
 
-/// Building an outline, undamaged.
-fn sound(random: &mut Random, outline: &Outline) -> Building {
-    let table = any_table(random, (outline.side * outline.side) as usize);
-    Building { side: outline.side, points: outline.points.clone(), counts: outline.counts.clone(), table }
+/// Building an outline that lies on this ground, undamaged.
+fn sound(random: &mut Random, ground: Ground, outline: &Outline) -> Building {
+    let table = any_table(random, (ground.side() * ground.side()) as usize);
+    Building { ground, points: outline.points.clone(), counts: outline.counts.clone(), table }
 }
 
 /// Building an outline, damaged in one or two parts. (Not every damage shows: a coordinate may stay on the tile.)
-pub fn building(random: &mut Random, outline: &Outline) -> Building {
-    let mut call = sound(random, outline);
+pub fn building(random: &mut Random, ground: Ground, outline: &Outline) -> Building {
+    let mut call = sound(random, ground, outline);
     for _ in 0..random.within(1, 2) {
         match random.index(9) {
-            0 => no_side(random, &mut call.side, &mut call.table),
-            1 => call.side = random.pick(&SIDES),
+            0 => no_ground(random, &mut call.ground, &mut call.table),
+            1 => another_ground(random, &mut call.ground),
             2 => resize(random, &mut call.table),
             3 => put(random, &mut call.counts, NO_COUNTS),
             4 => call.counts.push(random.pick(&[3, 1024])),
             5 => sum_to(random, &mut call),
             6 => resize(random, &mut call.points),
             7 => {
-                let limit = STEPS * outline.side as i64;
+                let limit = STEPS * ground.reach() as i64;
                 put(random, &mut call.points, [-1, limit, limit + 1, i64::MIN, i64::MAX, 1 << 32])
             }
             _ => {
@@ -117,10 +121,10 @@ pub fn building(random: &mut Random, outline: &Outline) -> Building {
 }
 
 /// Building an outline from points that are placed, damaged in the placement or in what it moves, and now and then as any building can be.
-pub fn placing(random: &mut Random, outline: &Outline) -> (Building, Placement) {
+pub fn placing(random: &mut Random, ground: Ground, outline: &Outline) -> (Building, Placement) {
     let (placement, points) = placements::onto_the_tile(random, outline);
     let before = Outline { points, ..outline.clone() };
-    let mut call = if random.once_in(4) { building(random, &before) } else { sound(random, &before) };
+    let mut call = if random.once_in(4) { building(random, ground, &before) } else { sound(random, ground, &before) };
     let mut numbers = placements::numbers(placement);
     for _ in 0..random.within(1, 2) {
         match random.index(8) {
@@ -137,11 +141,11 @@ pub fn placing(random: &mut Random, outline: &Outline) -> (Building, Placement) 
 
 /// A correction of a tile, damaged in one or two parts. (Again, not every damage shows.)
 pub fn correcting(random: &mut Random, mut call: Correcting) -> Correcting {
-    let limit = STEPS * call.side as i64;
+    let limit = STEPS * call.ground.reach() as i64;
     for _ in 0..random.within(1, 2) {
         match random.index(14) {
-            0 => no_side(random, &mut call.side, &mut call.tile.table),
-            1 => call.side = random.pick(&SIDES),
+            0 => no_ground(random, &mut call.ground, &mut call.tile.table),
+            1 => another_ground(random, &mut call.ground),
             2 => resize(random, &mut call.tile.table),
             3 => call.count = random.pick(&NO_COUNTS),
             4 => call.count = random.pick(&[3, call.count.saturating_sub(1), call.count.wrapping_add(1), MOST_EDGES]),
@@ -180,8 +184,14 @@ pub fn any_record(random: &mut Random, count: u32) -> u32 {
 /// The table becomes one that the contour takes to the limit, in every entry or in one, and half the time one past it there.
 fn to_the_limit(random: &mut Random, call: &mut Correcting) {
     let mut own = vec![0; call.tile.table.len()];
-    let placement = placements::for_library(call.placement);
-    if mattuliyan::build_placed(call.side, &call.points, &[call.count], placement, &mut own).is_err() {
+    let (points, counts, placement) = (&call.points, &[call.count], placements::for_library(call.placement));
+    let built = match call.ground {
+        Ground::Tile(side) => mattuliyan::build_placed(side, points, counts, placement, &mut own),
+        Ground::Sheet(place) => {
+            mattuliyan::build_on_sheet(sheets::for_library(place), points, counts, placement, &mut own)
+        }
+    };
+    if built.is_err() {
         return; // a damage from before
     }
     if call.correction == Correction::TakeOut {
@@ -281,6 +291,26 @@ fn resize(random: &mut Random, list: &mut Vec<i64>) {
     list.resize(length, 0);
 }
 
+/// What the tile lies on becomes something that there is not.
+fn no_ground(random: &mut Random, ground: &mut Ground, table: &mut Vec<i64>) {
+    match ground {
+        Ground::Tile(side) => no_side(random, side, table),
+        Ground::Sheet(place) => no_place(random, place, table),
+    }
+}
+
+/// The tile becomes another one, and all else stays.
+fn another_ground(random: &mut Random, ground: &mut Ground) {
+    match ground {
+        Ground::Tile(side) => *side = random.pick(&SIDES),
+        Ground::Sheet(place) => {
+            let same = (place.sheet, place.side);
+            let (sheet, side) = if random.once_in(2) && PAIRS.contains(&same) { same } else { random.pick(&PAIRS) };
+            *place = sheets::any_tile(random, sheet, side);
+        }
+    }
+}
+
 /// The side becomes one that no tile has, and half the time the table one that would fit it.
 fn no_side(random: &mut Random, side: &mut u32, table: &mut Vec<i64>) {
     const MOST: u32 = 100; // a table for a greater side would be a large one
@@ -293,5 +323,42 @@ fn no_side(random: &mut Random, side: &mut u32, table: &mut Vec<i64>) {
     };
     if *side <= MOST && random.once_in(2) {
         table.resize((*side * *side) as usize, 0);
+    }
+}
+
+/// A tile of a sheet becomes one that there is not: by the sheet's side, by its own, by one that is larger than the sheet, or by its place. Half the
+/// time the table becomes one that would fit it.
+fn no_place(random: &mut Random, place: &mut SheetTile, table: &mut Vec<i64>) {
+    const MOST: u32 = 256; // as in `no_side`
+    match random.index(8) {
+        0 => place.sheet = random.pick(&NO_SHEETS),
+        1 => place.side = random.pick(&NO_SIDES_ON_SHEET),
+        2 => place.sheet = place.side / 2,
+        3 => {
+            // lost where only 8 or 16 bits are looked at
+            let more = random.pick(&[256, BEYOND_16_BITS]);
+            let side = random.pick_mut(&mut place.sheet, &mut place.side);
+            *side = side.wrapping_add(more);
+        }
+        _ => {
+            let (across, round) = (place.sheet.checked_div(place.side).unwrap_or(0), 1u64 << u32::BITS);
+            // times the side, this is 0 in 32 bits, where the side is more than 1
+            let round = (round / u64::from(place.side.max(2))) as u32;
+            let number = random.pick_mut(&mut place.column, &mut place.row);
+            let any = across.saturating_add(random.index(1 << 10) as u32);
+            *number = random.pick(&[
+                across,
+                across.saturating_add(1),
+                any,
+                round,
+                round.wrapping_add(*number),
+                BEYOND_16_BITS.wrapping_add(*number),
+                (1 << 31) | *number,
+                u32::MAX,
+            ]);
+        }
+    }
+    if place.side <= MOST && random.once_in(2) {
+        table.resize((place.side * place.side) as usize, 0);
     }
 }

@@ -5,8 +5,8 @@
 //!
 //! A run is a list of cases, each made from the run's seed and its own number, so that any of them can be tried again alone. A case takes one
 //! accepted outline through building and every drawing call at every level ([`calls`]), and one like it that is placed first ([`placements`]),
-//! holds what is drawn to demand 3 with exact areas ([`demand3`]), and makes some calls that may be refused ([`damage`]). Corrections of tiles have
-//! runs of their own, of series ([`series`]).
+//! holds what is drawn to demand 3 with exact areas ([`demand3`]), and makes some calls that may be refused ([`damage`]). Tiles of sheets have runs of
+//! their own ([`sheets`]), and so have corrections of tiles, which are runs of series ([`series`]).
 pub mod calls;
 pub mod damage;
 pub mod demand3;
@@ -14,8 +14,9 @@ pub mod outlines;
 pub mod placements;
 pub mod random;
 pub mod series;
+pub mod sheets;
 
-use calls::Difference;
+use calls::{Difference, Ground};
 use demand3::{Looked, Worst};
 use outlines::{Outline, SIDES};
 use random::Random;
@@ -33,8 +34,8 @@ const CELLS_ALONE: usize = 64;
 /// Calls that may be refused, of building, of building with a placement and of drawing each, in a case.
 const DAMAGED_CALLS: u32 = 2;
 
-/// One more than the greatest number that is answered: 0 is the work done; 11 is the tile program's own and is not answered here.
-pub const ANSWERS: usize = 13;
+/// One more than the greatest number that a call answers: 0 is the work done; 11 is the tile program's own and is not answered here.
+pub const ANSWERS: usize = 16;
 
 /// What a run has seen.
 #[derive(Default)]
@@ -137,16 +138,7 @@ impl std::fmt::Display for Seen {
         )?;
         match &self.worst {
             None => write!(to, "none"),
-            Some(w) => write!(
-                to,
-                "{:.4} of its bound (side {}, level {}, cell ({}, {}), {} edges)",
-                w.ratio,
-                w.outline.side,
-                w.level,
-                w.cx,
-                w.cy,
-                w.outline.edges()
-            ),
+            Some(worst) => worst.fmt(to),
         }
     }
 }
@@ -159,9 +151,10 @@ pub fn case(rules: &dyn Rules, seed: u64, number: u64, seen: &mut Seen) -> Resul
     let outline = outlines::outline(random, side, large);
     from_outline_to_pictures(rules, random, &outline, seen)?;
     from_placed_to_pictures(rules, random, &outline, seen)?;
+    let ground = Ground::Tile(side);
     for _ in 0..DAMAGED_CALLS {
-        damaged_building(rules, random, &outline, seen)?;
-        damaged_placing(rules, random, &outline, seen)?;
+        damaged_building(rules, random, ground, &outline, seen)?;
+        damaged_placing(rules, random, ground, &outline, seen)?;
         damaged_drawing(rules, random, side, seen)?;
     }
     any_pictures(rules, random, side, seen)
@@ -275,22 +268,24 @@ fn any_pictures(rules: &dyn Rules, random: &mut Random, side: u32, seen: &mut Se
 fn damaged_building(
     rules: &dyn Rules,
     random: &mut Random,
+    ground: Ground,
     outline: &Outline,
     seen: &mut Seen,
 ) -> Result<(), Difference> {
-    let call = damage::building(random, outline);
-    seen.answer(calls::build(rules, call.side, &call.points, &call.counts, &call.table)?);
+    let call = damage::building(random, ground, outline);
+    seen.answer(calls::build_on(rules, call.ground, &call.points, &call.counts, None, &call.table)?);
     Ok(())
 }
 
 fn damaged_placing(
     rules: &dyn Rules,
     random: &mut Random,
+    ground: Ground,
     outline: &Outline,
     seen: &mut Seen,
 ) -> Result<(), Difference> {
-    let (call, placement) = damage::placing(random, outline);
-    seen.answer(calls::build_placed(rules, call.side, &call.points, &call.counts, placement, &call.table)?);
+    let (call, placement) = damage::placing(random, ground, outline);
+    seen.answer(calls::build_on(rules, call.ground, &call.points, &call.counts, Some(placement), &call.table)?);
     Ok(())
 }
 

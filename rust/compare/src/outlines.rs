@@ -4,7 +4,7 @@
 //! How often each comes, and the reach of a random step, are chosen so that every kind comes by the hundred in the gate's run, and no claim
 //! leans on them: `tests/differential.rs` asserts what must have come.
 use crate::random::Random;
-use reference::{Limits, STEPS};
+use reference::{Edge, Limits, STEPS};
 
 /// 01's sides of a tile.
 pub const SIDES: [u32; 7] = [1, 2, 4, 8, 16, 32, 64];
@@ -14,6 +14,7 @@ pub const FEWEST_POINTS: u32 = Limits::SPEC.least_count;
 
 #[derive(Clone, Debug, PartialEq)]
 pub struct Outline {
+    /// of the tile or of the sheet that it lies on
     pub side: u32,
     pub points: Vec<i64>,
     pub counts: Vec<u32>,
@@ -30,18 +31,25 @@ impl Outline {
         self.side.trailing_zeros()
     }
 
+    /// The edges, contour by contour, from each point to the next.
+    pub fn each_edge(&self) -> Vec<Edge> {
+        let mut edges = Vec::with_capacity(self.points.len() / 2);
+        let mut rest = &self.points[..];
+        for &count in &self.counts {
+            let (contour, after) = rest.split_at(2 * count as usize);
+            rest = after;
+            let points: Vec<&[i64]> = contour.chunks(2).collect();
+            let next = points.iter().cycle().skip(1);
+            edges.extend(points.iter().zip(next).map(|(a, b)| Edge { x0: a[0], y0: a[1], x1: b[0], y1: b[1] }));
+        }
+        edges
+    }
+
     /// Is every edge level, upright or at 45 degrees? (A point that is repeated is all three.)
     pub fn is_octilinear(&self) -> bool {
-        let mut from = 0;
-        self.counts.iter().all(|&count| {
-            let to = from + 2 * count as usize;
-            let contour: Vec<&[i64]> = self.points[from..to].chunks(2).collect();
-            from = to;
-            (0..contour.len()).all(|i| {
-                let next = contour[(i + 1) % contour.len()];
-                let (dx, dy) = ((next[0] - contour[i][0]).abs(), (next[1] - contour[i][1]).abs());
-                dx == 0 || dy == 0 || dx == dy
-            })
+        self.each_edge().iter().all(|edge| {
+            let (dx, dy) = ((edge.x1 - edge.x0).abs(), (edge.y1 - edge.y0).abs());
+            dx == 0 || dy == 0 || dx == dy
         })
     }
 
@@ -92,6 +100,15 @@ pub fn outline(random: &mut Random, side: u32, large: bool) -> Outline {
         points.extend(contour.iter().map(|&(x, y)| (x.clamp(0, limit), y.clamp(0, limit))));
     }
     Outline { side, points: points.iter().flat_map(|&(x, y)| [x, y]).collect(), counts }
+}
+
+/// A random outline of level and upright edges and those at 45 degrees alone.
+pub fn octilinear_outline(random: &mut Random, side: u32) -> Outline {
+    let most = random.within(3, 24) as u32;
+    let counts = counts(random, most);
+    let limit = STEPS * side as i64;
+    let points = counts.iter().flat_map(|&count| octilinear(random, limit, count as usize)).flat_map(|(x, y)| [x, y]);
+    Outline { side, points: points.collect(), counts }
 }
 
 /// A hole in a contour: its points halfway to its middle, and backwards. So it is clockwise where the contour is anticlockwise.
@@ -170,7 +187,7 @@ fn small_steps(random: &mut Random, limit: i64, count: usize) -> Vec<Point> {
 
 /// Points on the sides and middles of cells of some level, or one step beside them.
 fn on_grid_lines(random: &mut Random, limit: i64, count: usize) -> Vec<Point> {
-    // from the tile's width, at most 2^14 steps, down to one step
+    // from the tile's width, at most 2^14 steps, down to one step; on the largest sheet, from 2^15 to two
     let spacing = (limit >> random.index(15)).max(1);
     let on_line = |random: &mut Random| {
         let beside = if random.once_in(4) { random.within(-1, 1) } else { 0 };
@@ -190,7 +207,7 @@ fn room(limit: i64, at: i64, step: i64) -> i64 {
 
 /// Edges of any slope that go through a point where cells meet, or the middle of one.
 fn through_grid_points(random: &mut Random, limit: i64, count: usize) -> Vec<Point> {
-    // from the tile's corners to the middles of the smallest cells, of level 6
+    // from the tile's corners to the middles of the smallest cells, of level 6; on the largest sheet, to the corners of its pixels
     let spacing = (limit >> random.index(8)).max(1);
     let mut points = Vec::new();
     while points.len() < count {
@@ -409,6 +426,9 @@ mod tests {
         for count in 3..200 {
             let points = octilinear(&mut random, 512, count).iter().flat_map(|&(x, y)| [x, y]).collect();
             assert!(Outline { side: 2, points, counts: vec![count as u32] }.is_octilinear());
+            let outline = octilinear_outline(&mut random, 128);
+            assert!(outline.is_octilinear() && outline.points.len() == 2 * outline.edges() as usize);
+            assert!(outline.points.iter().all(|c| (0..=128 * STEPS).contains(c)));
         }
         let slanted = Outline { side: 2, points: vec![0, 0, 2, 1, 0, 1], counts: vec![3] };
         assert!(!slanted.is_octilinear());

@@ -74,7 +74,8 @@ fn turn(random: &mut Random, outline: &Outline) -> (Placement, Vec<i64>) {
     let smaller = [1, 2, 4].into_iter().find(|times| most <= times * PARTS).expect("no factor is past 2");
     let middle = STEPS * outline.side as i64 / 2;
     let (from, [c, f]) = to_the_middle(random, outline.side, factors);
-    let back = |(i, &at): (usize, &i64)| from[i % 2] + (at - middle) / smaller;
+    // the largest sheet is one step wider than what is moved
+    let back = |(i, &at): (usize, &i64)| in_reach(from[i % 2] + (at - middle) / smaller);
     let points = outline.points.iter().enumerate().map(back).collect();
     (Placement::Turn([a, b, c, d, e, f].map(float)), points)
 }
@@ -90,6 +91,10 @@ fn to_the_middle(random: &mut Random, side: u32, [a, b, d, e]: [i64; 4]) -> ([i6
         let (c, f) = (middle * PARTS - a * x - b * y + across, middle * PARTS - d * x - e * y + down);
         if c.abs().max(f.abs()) <= MOST_OFFSET {
             return (from, [c, f]);
+        }
+        if from == [0, 0] {
+            // the middle of the largest sheet is as far as an offset reaches, and there is no room for a fraction that goes past it
+            return (from, [c, f].map(|offset| offset.min(MOST_OFFSET)));
         }
         from = [x / 2, y / 2]; // a point nearer to the corner of the tile, which needs less of an offset
     }
@@ -237,6 +242,7 @@ pub fn for_library(placement: Placement) -> mattuliyan::Placement {
 mod tests {
     use super::*;
     use crate::outlines::{contour, outline, SIDES};
+    use reference::SheetTile;
 
     #[test]
     fn placed_outlines_are_on_the_tile() {
@@ -275,6 +281,25 @@ mod tests {
         }
         assert!(kinds.iter().all(|&times| times > 700), "none, shifted, scaled, turned: {kinds:?}");
         assert!(moved > 4500 && halves > 5000, "{moved} moved, {halves} coordinates at a half");
+    }
+
+    /// The largest sheet is one step wider than what is moved, and its middle as far as an offset reaches.
+    #[test]
+    fn placements_onto_the_largest_sheet() {
+        let mut random = Random::new(7);
+        let place = SheetTile { sheet: 128, side: 1, column: 0, row: 0 };
+        let mut kinds = [[0; 4]; 2];
+        for _ in 0..3000 {
+            let outline = outline(&mut random, place.sheet, false);
+            let (placement, points) = onto_the_tile(&mut random, &outline);
+            let built = reference::build_on_sheet(&Spec, place, &points, &outline.counts, placement, &[0]);
+            assert_eq!(built.map(|(edges, _)| edges), Ok(outline.edges()), "{placement:?}");
+            kinds[0][kind(placement)] += 1;
+            let (placement, before) = exactly_onto(&mut random, place.sheet, &outline.points);
+            assert_eq!(reference::placed(&Spec, placement, &before), outline.points, "{placement:?}");
+            kinds[1][kind(placement)] += 1;
+        }
+        assert!(kinds.iter().flatten().all(|&times| times > 300), "none, shifted, scaled, turned: {kinds:?}");
     }
 
     /// How many coordinates a placement takes to a half. In floats this is exact, as 02 says.

@@ -5,10 +5,12 @@
 //! order and in a table that held anything; and once in a while what is drawn is held to exact areas. Between these calls others are made on
 //! copies of the tile, so that the series stays what it is: calls that may be refused ([`damage`]), and contours taken out that are not in. Then
 //! there are tiles that no series leaves, of any record and with entries up to the limit.
-use crate::calls::{self, Correcting, Difference, Tile};
+//!
+//! The tile is one alone, or one of a sheet that keeps its place from the first call to the last.
+use crate::calls::{self, Correcting, Difference, Ground, Tile};
 use crate::outlines::{self, Outline, FEWEST_POINTS, MOST_EDGES, SIDES};
 use crate::random::Random;
-use crate::{damage, demand3, grouped, on_all_processors, placements, Tally};
+use crate::{damage, demand3, grouped, on_all_processors, placements, sheets, Tally, ANSWERS};
 use reference::{Correction, Placement, Rules, Spec};
 use std::fmt::{Display, Formatter};
 use std::ops::Range;
@@ -21,9 +23,6 @@ const NEAR_ONE_IN: u64 = 8;
 
 /// Calls on a tile that no series need leave.
 const CALLS_ON_ANY_TILE: u32 = 4;
-
-/// One more than the greatest number that is answered.
-pub const ANSWERS: usize = 14;
 
 /// What a run of series has seen. Where there are two numbers, the first is of putting in and the second of taking out.
 #[derive(Default)]
@@ -138,7 +137,7 @@ struct Contour {
 
 /// A tile whose contours are known.
 struct Known {
-    side: u32,
+    ground: Ground,
     tile: Tile,
     /// the same tile, in the library's own type
     owned: mattuliyan::Tile,
@@ -150,24 +149,39 @@ pub fn run(seed: u64, numbers: Range<u64>) -> Result<Seen, (u64, Difference)> {
     on_all_processors(numbers, |number, seen| series(&Spec, seed, number, seen))
 }
 
+/// The series of these numbers on tiles of sheets, likewise.
+pub fn run_on_sheets(seed: u64, numbers: Range<u64>) -> Result<Seen, (u64, Difference)> {
+    on_all_processors(numbers, |number, seen| series_on_sheet(&Spec, seed, number, seen))
+}
+
 /// One series of a run, and calls on a tile that no series need leave.
 pub fn series(rules: &dyn Rules, seed: u64, number: u64, seen: &mut Seen) -> Result<(), Difference> {
     let random = &mut Random::of_case(seed, number);
-    let side = SIDES[(number % SIDES.len() as u64) as usize];
+    let ground = Ground::Tile(SIDES[(number % SIDES.len() as u64) as usize]);
     let large = (number / SIDES.len() as u64).is_multiple_of(LARGE_ONE_IN);
-    from_tile_to_tile(rules, random, side, large, seen)?;
-    on_any_tile(rules, random, side, seen)
+    from_tile_to_tile(rules, random, ground, large, seen)?;
+    on_any_tile(rules, random, ground, seen)
+}
+
+/// The same, on a tile of a sheet.
+pub fn series_on_sheet(rules: &dyn Rules, seed: u64, number: u64, seen: &mut Seen) -> Result<(), Difference> {
+    let random = &mut Random::of_case(seed, number);
+    let (sheet, side) = sheets::PAIRS[(number % sheets::PAIRS.len() as u64) as usize];
+    let ground = Ground::Sheet(sheets::any_tile(random, sheet, side));
+    let large = (number / sheets::PAIRS.len() as u64).is_multiple_of(LARGE_ONE_IN);
+    from_tile_to_tile(rules, random, ground, large, seen)?;
+    on_any_tile(rules, random, ground, seen)
 }
 
 /// A series from its beginning to its end, where the tile is held to what building what remains leaves.
 fn from_tile_to_tile(
     rules: &dyn Rules,
     random: &mut Random,
-    side: u32,
+    ground: Ground,
     large: bool,
     seen: &mut Seen,
 ) -> Result<(), Difference> {
-    let mut known = begin(rules, random, side, large, seen)?;
+    let mut known = begin(rules, random, ground, large, seen)?;
     let mut full = false;
     // with large contours the tile is soon full, and then empty
     let steps = if large { random.within(3, 6) } else { random.within(3, 16) };
@@ -197,32 +211,48 @@ fn from_tile_to_tile(
 }
 
 /// An empty tile, or what building left.
-fn begin(rules: &dyn Rules, random: &mut Random, side: u32, large: bool, seen: &mut Seen) -> Result<Known, Difference> {
-    let entries = (side * side) as usize;
+fn begin(
+    rules: &dyn Rules,
+    random: &mut Random,
+    ground: Ground,
+    large: bool,
+    seen: &mut Seen,
+) -> Result<Known, Difference> {
+    let entries = (ground.side() * ground.side()) as usize;
     let way = random.pick(&[0, 0, 1, 2]);
     seen.series[way] += 1;
     if way == 0 {
-        let owned = mattuliyan::Tile::new(side).map_err(|refusal| Difference(format!("an empty tile: {refusal}")))?;
+        let empty = match ground {
+            Ground::Tile(side) => mattuliyan::Tile::new(side),
+            Ground::Sheet(place) => mattuliyan::Tile::on_sheet(sheets::for_library(place)),
+        };
+        let owned = empty.map_err(|refusal| Difference(format!("an empty tile: {refusal}")))?;
         let tile = Tile { record: 0, table: vec![0; entries] };
-        calls::same_owned(&owned, side, &tile)?;
-        return Ok(Known { side, tile, owned, contours: Vec::new() });
+        calls::same_owned(&owned, ground, &tile)?;
+        return Ok(Known { ground, tile, owned, contours: Vec::new() });
     }
-    let outline = outlines::outline(random, side, large);
+    let outline = outlines::outline(random, ground.reach(), large);
     let held = damage::any_table(random, entries);
     let counts = &outline.counts;
-    let (placement, points, built) = if way == 1 {
-        (Placement::None, outline.points.clone(), calls::build(rules, side, &outline.points, counts, &held)?)
-    } else {
-        let (placement, points) = placements::onto_the_tile(random, &outline);
-        let built = calls::build_placed(rules, side, &points, counts, placement, &held)?;
-        (placement, points, built)
+    let (placement, points) = match way {
+        1 => (None, outline.points.clone()),
+        _ => {
+            let (placement, points) = placements::onto_the_tile(random, &outline);
+            (Some(placement), points)
+        }
     };
+    let built = calls::build_on(rules, ground, &points, counts, placement, &held)?;
     let (record, table) =
         built.map_err(|number| Difference(format!("an accepted outline is refused with {number}")))?;
-    let owned = mattuliyan::Tile::build(side, &points, counts, placements::for_library(placement))
-        .map_err(|refusal| Difference(format!("a tile of an accepted outline: {refusal}")))?;
+    let placement = placement.unwrap_or_default();
+    let lent = placements::for_library(placement);
+    let owned = match ground {
+        Ground::Tile(side) => mattuliyan::Tile::build(side, &points, counts, lent),
+        Ground::Sheet(place) => mattuliyan::Tile::build_on_sheet(sheets::for_library(place), &points, counts, lent),
+    };
+    let owned = owned.map_err(|refusal| Difference(format!("a tile of an accepted outline: {refusal}")))?;
     let tile = Tile { record, table };
-    calls::same_owned(&owned, side, &tile)?;
+    calls::same_owned(&owned, ground, &tile)?;
 
     let mut placed = reference::placed(&Spec, placement, &points);
     let contours = counts
@@ -232,7 +262,7 @@ fn begin(rules: &dyn Rules, random: &mut Random, side: u32, large: bool, seen: &
             Contour { points: std::mem::replace(&mut placed, rest), placement }
         })
         .collect();
-    Ok(Known { side, tile, owned, contours })
+    Ok(Known { ground, tile, owned, contours })
 }
 
 /// Puts a contour in, if there is room for it.
@@ -243,7 +273,7 @@ fn put_one(
     large: bool,
     seen: &mut Seen,
 ) -> Result<(), Difference> {
-    let side = known.side;
+    let side = known.ground.reach();
     let (placement, points) = match known.contours.len() {
         // one that is in once more, or backwards, which leaves of it nothing but edges
         within @ 1.. if random.once_in(8) => {
@@ -280,7 +310,7 @@ fn put_one(
 /// Takes out a contour that is in, under a placement that leads to its points.
 fn take_one(rules: &dyn Rules, random: &mut Random, known: &mut Known, seen: &mut Seen) -> Result<(), Difference> {
     let contour = known.contours.swap_remove(random.index(known.contours.len()));
-    let (placement, points) = placements::exactly_onto(random, known.side, &contour.points);
+    let (placement, points) = placements::exactly_onto(random, known.ground.reach(), &contour.points);
     let call = known.call(Correction::TakeOut, points, placement);
     if let Err(number) = known.correct(rules, &call, seen)? {
         return Err(Difference(format!("taking out a contour that is in is refused with {number}")));
@@ -311,7 +341,7 @@ impl Known {
     /// A call on this tile.
     fn call(&self, correction: Correction, points: Vec<i64>, placement: Placement) -> Correcting {
         let count = points.len() as u32 / 2;
-        Correcting { correction, side: self.side, points, count, placement, tile: self.tile.clone() }
+        Correcting { correction, ground: self.ground, points, count, placement, tile: self.tile.clone() }
     }
 
     /// Makes a call, and keeps the tile that it leaves.
@@ -325,7 +355,7 @@ impl Known {
 
 /// Calls on copies of a tile: one that may be refused, and a contour taken out that is not in.
 fn beside(rules: &dyn Rules, random: &mut Random, known: &Known, seen: &mut Seen) -> Result<(), Difference> {
-    let stranger = a_call(random, known.side, known.tile.clone());
+    let stranger = a_call(random, known.ground, known.tile.clone());
     let damaged = damage::correcting(random, stranger.clone());
     let stranger = Correcting { correction: Correction::TakeOut, ..stranger };
     for (call, counted) in [(damaged, false), (stranger, true)] {
@@ -334,7 +364,7 @@ fn beside(rules: &dyn Rules, random: &mut Random, known: &Known, seen: &mut Seen
         seen.not_in += (counted && answer.is_ok()) as u64;
         // what a tile of the library's own type can be asked for
         let whole = call.count as usize == call.points.len() / 2;
-        if whole && call.side == known.side && call.tile == known.tile {
+        if whole && call.ground == known.ground && call.tile == known.tile {
             calls::correct_owned(&mut known.owned.clone(), &call, &answer)?;
         }
     }
@@ -342,12 +372,12 @@ fn beside(rules: &dyn Rules, random: &mut Random, known: &Known, seen: &mut Seen
 }
 
 /// Puts some contour in or takes it out.
-fn a_call(random: &mut Random, side: u32, tile: Tile) -> Correcting {
-    let count = a_count(random, false, 0);
+fn a_call(random: &mut Random, ground: Ground, tile: Tile) -> Correcting {
+    let (side, count) = (ground.reach(), a_count(random, false, 0));
     let points = outlines::contour(random, side, count);
     let (placement, points) = placements::onto_the_tile(random, &Outline { side, points, counts: vec![count] });
     let correction = random.pick(&[Correction::PutIn, Correction::TakeOut]);
-    Correcting { correction, side, points, count, placement, tile }
+    Correcting { correction, ground, points, count, placement, tile }
 }
 
 /// At the end of a series, the tile is the one that building what remains leaves, in any order and in a table that held anything. The answer is
@@ -360,7 +390,7 @@ fn as_built(rules: &dyn Rules, random: &mut Random, known: &Known) -> Result<Out
     let points: Vec<i64> = contours.iter().flat_map(|contour| &contour.points).copied().collect();
     let counts: Vec<u32> = contours.iter().map(|contour| contour.points.len() as u32 / 2).collect();
     let held = damage::any_table(random, known.tile.table.len());
-    let built = calls::build(rules, known.side, &points, &counts, &held)?;
+    let built = calls::build_on(rules, known.ground, &points, &counts, None, &held)?;
     let (record, table) = built.map_err(|number| Difference(format!("what remains is refused with {number}")))?;
     if (Tile { record, table }) != known.tile {
         return Err(Difference(format!(
@@ -368,14 +398,15 @@ fn as_built(rules: &dyn Rules, random: &mut Random, known: &Known) -> Result<Out
             counts.len()
         )));
     }
-    calls::same_owned(&known.owned, known.side, &known.tile)?;
-    Ok(Outline { side: known.side, points, counts })
+    calls::same_owned(&known.owned, known.ground, &known.tile)?;
+    Ok(Outline { side: known.ground.reach(), points, counts })
 }
 
 /// A tile of the library's own type is drawn as the reference draws its table, at every level; and as near to the ink as an outline is that is
 /// drawn afresh.
 fn as_drawn(rules: &dyn Rules, random: &mut Random, known: &Known, near: Option<&Outline>) -> Result<(), Difference> {
-    let Known { side, ref tile, ref owned, .. } = *known;
+    let Known { ground, ref tile, ref owned, .. } = *known;
+    let side = ground.side();
     for level in 0..=side.trailing_zeros() {
         let drawn = |what: &str, refusal| Difference(format!("level {level} of a tile, {what}: {refusal}"));
         let figures = owned.figures(level).map_err(|refusal| drawn("figures", refusal))?;
@@ -390,8 +421,11 @@ fn as_drawn(rules: &dyn Rules, random: &mut Random, known: &Known, near: Option<
             return Err(Difference(format!("level {level} of a tile is not drawn as its table is")));
         }
         if let Some(outline) = near {
-            let area = reference::signed_area(&outline.points, &outline.counts);
-            demand3::near_by(rules, outline, level, area, &figures, &greys)?;
+            let root = match ground {
+                Ground::Tile(_) => reference::signed_area(&outline.points, &outline.counts),
+                Ground::Sheet(_) => tile.table[0],
+            };
+            demand3::near_on(rules, ground, outline, level, root, &figures, &greys)?;
         }
     }
     Ok(())
@@ -399,10 +433,10 @@ fn as_drawn(rules: &dyn Rules, random: &mut Random, known: &Known, near: Option<
 
 /// Corrects a tile that no series need leave, with entries up to the limit, and then undoes it, where the record allows that; and makes some calls
 /// that may be refused.
-fn on_any_tile(rules: &dyn Rules, random: &mut Random, side: u32, seen: &mut Seen) -> Result<(), Difference> {
-    let mut tile = damage::any_tile(random, side, FEWEST_POINTS);
+fn on_any_tile(rules: &dyn Rules, random: &mut Random, ground: Ground, seen: &mut Seen) -> Result<(), Difference> {
+    let mut tile = damage::any_tile(random, ground.side(), FEWEST_POINTS);
     for _ in 0..CALLS_ON_ANY_TILE {
-        let mut call = a_call(random, side, tile.clone());
+        let mut call = a_call(random, ground, tile.clone());
         if random.once_in(2) {
             call.tile.record = damage::any_record(random, call.count);
         }
@@ -429,7 +463,7 @@ fn undo(
     seen: &mut Seen,
 ) -> Result<(), Difference> {
     let placed = reference::placed(&Spec, call.placement, &call.points);
-    let (placement, points) = placements::exactly_onto(random, call.side, &placed);
+    let (placement, points) = placements::exactly_onto(random, call.ground.reach(), &placed);
     let (correction, expected) = match call.correction {
         Correction::PutIn => (Correction::TakeOut, Ok(&call.tile)),
         Correction::TakeOut if call.tile.record > MOST_EDGES => (Correction::PutIn, Err(5)),

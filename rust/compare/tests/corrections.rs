@@ -1,12 +1,12 @@
 //! What random series meet too seldom: each entry of the table, before a call and after it; each coordinate; records about each border; entries at
 //! the ends of 64 bits; the largest values; every fault with every other; a tile that is filled to the last edge.
-use compare::calls::{correct, Correcting, Tile};
+use compare::calls::{correct, Correcting, Ground, Tile};
 use compare::damage::ENTRY_LIMIT;
 use compare::outlines::{MOST_EDGES, SIDES};
 use compare::random::Random;
 use mattuliyan::Refusal;
 use reference::Correction::{PutIn, TakeOut};
-use reference::{Placement, Spec, STEPS};
+use reference::{Placement, SheetTile, Spec, STEPS};
 
 const CORRECTIONS: [reference::Correction; 2] = [PutIn, TakeOut];
 
@@ -15,7 +15,7 @@ fn call(correction: reference::Correction, side: u32, points: &[i64], record: u3
     let tile = Tile { record, table: table.to_vec() };
     Correcting {
         correction,
-        side,
+        ground: Ground::Tile(side),
         points: points.to_vec(),
         count: points.len() as u32 / 2,
         placement: Placement::None,
@@ -149,13 +149,29 @@ fn largest_values() {
     assert_eq!(table[0], ENTRY_LIMIT);
 }
 
-/// A call with each of these faults and no other: 01's letter E, by a scale of 1. Of the last two, one is of the table that would be left.
-fn with_faults(correction: reference::Correction, faults: &[usize]) -> Correcting {
+/// 01's letter E, by a scale of 1, on a tile alone or in the second of four tiles of a sheet.
+fn letter_e(correction: reference::Correction, on_sheet: bool) -> Correcting {
     let mut call = call(correction, 2, &[0, 0, 512, 0, 0, 512], 3, &[7; 4]);
     call.placement = Placement::Scale(1.0);
+    if on_sheet {
+        call.ground = Ground::Sheet(SheetTile { sheet: 4, side: 2, column: 1, row: 0 });
+        call.points.iter_mut().step_by(2).for_each(|x| *x += 512);
+    }
+    call
+}
+
+/// The letter with each of these faults and no other. Of the last two, one is of the table that would be left.
+fn with_faults(correction: reference::Correction, on_sheet: bool, faults: &[usize]) -> Correcting {
+    let mut call = letter_e(correction, on_sheet);
     for fault in faults {
+        match (fault, &mut call.ground) {
+            (1, Ground::Tile(side)) => *side = 3,
+            (14, Ground::Sheet(place)) => place.sheet = 5,
+            (15, Ground::Sheet(place)) => place.row = u32::MAX,
+            _ => (),
+        }
         match fault {
-            1 => call.side = 3,
+            1 | 14 | 15 => (),
             2 => call.tile.table.push(7),
             4 => call.count = 1025,
             5 => call.tile.record = 1022,
@@ -175,7 +191,12 @@ const LEFT: usize = 90;
 
 #[test]
 fn every_fault_with_every_other() {
-    for (correction, order) in [(PutIn, [1, 2, 4, 5, 3, 12, 6, 9, LEFT]), (TakeOut, [1, 2, 4, 3, 12, 6, 13, 9, LEFT])] {
+    for (correction, on_sheet, order) in [
+        (PutIn, false, &[1, 2, 4, 5, 3, 12, 6, 9, LEFT][..]),
+        (TakeOut, false, &[1, 2, 4, 3, 12, 6, 13, 9, LEFT]),
+        (PutIn, true, &[14, 15, 2, 4, 5, 3, 12, 6, 9, LEFT]),
+        (TakeOut, true, &[14, 15, 2, 4, 3, 12, 6, 13, 9, LEFT]),
+    ] {
         for chosen in 0..1u32 << order.len() {
             let faults: Vec<usize> =
                 order.iter().enumerate().filter(|&(i, _)| chosen >> i & 1 == 1).map(|(_, &fault)| fault).collect();
@@ -184,7 +205,8 @@ fn every_fault_with_every_other() {
                 Some(&LEFT) => Err(9),
                 Some(&fault) => Err(fault as u8),
             };
-            assert_eq!(answer(&with_faults(correction, &faults)), expected, "{correction:?} with {faults:?}");
+            let call = with_faults(correction, on_sheet, &faults);
+            assert_eq!(answer(&call), expected, "{correction:?} with {faults:?}");
         }
     }
 }

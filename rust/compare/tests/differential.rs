@@ -5,6 +5,9 @@ const SEED: u64 = 1;
 /// As many as take well under two minutes on two processors.
 const CASES: u64 = 35_000;
 
+/// The numbers that building and drawing answer.
+const NUMBERS: [usize; 12] = [0, 1, 2, 3, 4, 5, 6, 7, 8, 9, 10, 12];
+
 #[test]
 fn library_and_reference_agree() {
     let seen = compare::run(SEED, 0..CASES)
@@ -12,8 +15,8 @@ fn library_and_reference_agree() {
     println!("differential: {seen}");
     // The run did what it says: every number was answered many times, and there were the outlines that matter most.
     assert_eq!((seen.outlines, seen.placed.iter().sum()), (CASES, CASES));
-    let numbers = (0..compare::ANSWERS).filter(|&number| number != 11);
-    assert!(numbers.map(|number| seen.answered[number]).all(|times| times > 500), "answered: {:?}", seen.answered);
+    assert!(NUMBERS.iter().all(|&number| seen.answered[number] > 500), "answered: {:?}", seen.answered);
+    assert_eq!(NUMBERS.iter().map(|&number| seen.answered[number]).sum::<u64>(), seen.calls);
     assert!(seen.placed.iter().all(|&outlines| outlines > CASES / 10), "placed: {:?}", seen.placed);
     assert!(seen.octilinear > CASES / 20 && seen.empty > CASES / 400);
     assert!(

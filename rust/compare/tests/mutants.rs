@@ -1,14 +1,16 @@
 //! The tests are tested: each wrong variant of the reference differs from the library in some case of the same run, or in some series, and what is
 //! drawn wrongly does not pass for near.
-use compare::calls::Difference;
+use compare::calls::{Difference, Ground};
 use compare::outlines::Outline;
-use compare::{case, demand3, series, Seen};
-use reference::{Rules, Spec};
+use compare::{case, demand3, series, sheets, Seen};
+use reference::{Rules, SheetTile, Spec};
 
-/// The seed of `tests/differential.rs` and of `tests/series.rs`, whose first cases and first series these are.
+/// The seed of `tests/differential.rs`, `tests/series.rs` and `tests/sheets.rs`, whose first cases and first series these are.
 const SEED: u64 = 1;
 const CASES: u64 = 2_000;
 const SERIES: u64 = 500;
+const CASES_ON_SHEETS: u64 = 400;
+const SERIES_ON_SHEETS: u64 = 300;
 
 fn first_difference(rules: &dyn Rules) -> Option<(u64, Difference)> {
     let mut seen = Seen::default();
@@ -45,6 +47,35 @@ fn wrong_corrections_are_caught() {
         println!("mutants: {name}: caught in series {number}: {difference}");
     }
     assert!(first_different_series(&Spec).is_none(), "the reference itself differs");
+}
+
+fn first_different_on_a_sheet(rules: &dyn Rules) -> Option<(u64, Difference)> {
+    let mut seen = sheets::Seen::default();
+    let different = |number| sheets::case(rules, SEED, number, &mut seen).err().map(|difference| (number, difference));
+    (0..CASES_ON_SHEETS).find_map(different)
+}
+
+fn first_different_series_on_a_sheet(rules: &dyn Rules) -> Option<(u64, Difference)> {
+    let mut seen = series::Seen::default();
+    let different =
+        |number| series::series_on_sheet(rules, SEED, number, &mut seen).err().map(|difference| (number, difference));
+    (0..SERIES_ON_SHEETS).find_map(different)
+}
+
+#[test]
+fn wrong_sheets_are_caught() {
+    let of_sheets = reference::wrong::of_sheet();
+    assert!(of_sheets.len() >= 20);
+    for (name, rules) in of_sheets {
+        let (number, difference) = first_different_on_a_sheet(&*rules)
+            .unwrap_or_else(|| panic!("{name}: not caught in {CASES_ON_SHEETS} cases on sheets"));
+        println!("mutants: {name}: caught in case {number} on a sheet: {difference}");
+        let (number, difference) = first_different_series_on_a_sheet(&*rules)
+            .unwrap_or_else(|| panic!("{name}: not caught in {SERIES_ON_SHEETS} series on sheets"));
+        println!("mutants: {name}: caught in series {number} on a sheet: {difference}");
+    }
+    assert!(first_different_on_a_sheet(&Spec).is_none(), "the reference itself differs");
+    assert!(first_different_series_on_a_sheet(&Spec).is_none(), "the reference itself differs");
 }
 
 /// 01's letter F, its signed area, and its figures and greys of level 1 as they are drawn.
@@ -102,6 +133,20 @@ fn totals_that_are_off_are_caught() {
     let (outline, area, mut figures, greys) = drawn();
     figures[3] += 1;
     assert!(demand3::near(&outline, 1, area, &figures, &greys).is_err());
+}
+
+/// 01's letter F on a sheet of two tiles: 341 1/3 of its area is on the first, whose root may be 340 to 342 for its three edges, and no other.
+#[test]
+fn roots_past_the_bound_are_caught() {
+    let place = SheetTile { sheet: 2, side: 1, column: 0, row: 0 };
+    let outline = Outline { side: 2, points: vec![0, 0, 384, 1, 0, 1], counts: vec![3] };
+    let near = |root| demand3::near_on(&Spec, Ground::Sheet(place), &outline, 0, root, &[root], &[1]).is_ok();
+    assert_eq!([339, 340, 341, 342, 343].map(near), [false, true, true, true, false]);
+    // its figures add up to its own root, not to the signed area
+    assert!(demand3::near_on(&Spec, Ground::Sheet(place), &outline, 0, 384, &[341], &[1]).is_err());
+    // on a tile alone a root is the signed area
+    let near = |root| demand3::near(&outline, 0, root, &[root], &[0]).is_ok();
+    assert_eq!([383, 384, 385].map(near), [false, true, false]);
 }
 
 #[test]

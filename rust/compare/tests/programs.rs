@@ -219,7 +219,16 @@ fn soak_of_one_case_or_series() {
     assert!(output.status.success());
     assert!(text(&output.stdout).contains("up to series 13: 1 series"), "{}", text(&output.stdout));
     assert!(!text(&output.stdout).contains("outlines"), "{}", text(&output.stdout));
-    for words in [&["--case"][..], &["--case", "x"], &["--series"], &["--else", "1"]] {
+    for (word, what) in [
+        ("--sheet-case", "up to case 13 on a sheet: 1 outlines"),
+        ("--sheet-series", "up to series 13 on a sheet: 1 series"),
+    ] {
+        let output = soak(&["--seed", "5", word, "13"]);
+        assert!(output.status.success());
+        assert!(text(&output.stdout).contains(what), "{}", text(&output.stdout));
+        assert_eq!(text(&output.stdout).lines().count(), 1);
+    }
+    for words in [&["--case"][..], &["--case", "x"], &["--series"], &["--sheet-case"], &["--else", "1"]] {
         assert_eq!(soak(words).status.code(), Some(2));
     }
 }

@@ -1,22 +1,23 @@
 //! Compares library and reference for as long as one likes, and looks for outlines whose figures miss the exact area by the most.
 use compare::random::Random;
-use compare::{from_outline_to_pictures, run, series, tried, Seen, Tally};
+use compare::{from_outline_to_pictures, run, series, sheets, tried, Seen, Tally};
 use reference::{Spec, STEPS};
 use std::ops::Range;
 use std::process::ExitCode;
 use std::time::Instant;
 
-const USAGE: &str = "usage: soak [--seed N] [--case N] [--series N] [--seconds N]
+const USAGE: &str = "usage: soak [--seed N] [--case N] [--series N] [--sheet-case N] [--sheet-series N] [--seconds N]
 
-Runs case after case of a seed, 1 if left out, and series after series of corrections, and says every few seconds how far
-it is and what was the worst miss of a figure so far, as a ratio of its bound. Each time, the worst of the latest outlines
-is changed a little, over and over, in search of a worse one. It ends at the first difference between library and
-reference, with status 1, or after the round in which the seconds have passed; else it goes on until it is stopped. With
---case or --series, only that case or that series is tried.";
+Runs case after case of a seed, 1 if left out, and series after series of corrections, on tiles alone and on tiles of
+sheets, and says every few seconds how far it is and what was the worst miss of a figure so far, as a ratio of its bound.
+Each time, the worst of the latest outlines on a tile alone is changed a little, over and over, in search of a worse one.
+It ends at the first difference between library and reference, with status 1, or after the round in which the seconds have
+passed; else it goes on until it is stopped. With --case, --series, --sheet-case or --sheet-series, only that one is tried.";
 
-/// Cases and series between two lines of progress: some seconds' worth.
+/// Cases and series between two lines of progress: some seconds' worth. Those on sheets are whole rounds of all pairs of sides.
 const ROUND: u64 = 4_000;
 const ROUND_OF_SERIES: u64 = 1_000;
+const ROUND_ON_SHEETS: u64 = 8 * sheets::PAIRS.len() as u64;
 /// Changed outlines that are tried after each round.
 const CHANGES: u64 = 4_000;
 
@@ -24,11 +25,14 @@ struct Options {
     seed: u64,
     case: Option<u64>,
     series: Option<u64>,
+    sheet_case: Option<u64>,
+    sheet_series: Option<u64>,
     seconds: u64,
 }
 
 fn options() -> Option<Options> {
-    let mut options = Options { seed: 1, case: None, series: None, seconds: u64::MAX };
+    let mut options =
+        Options { seed: 1, case: None, series: None, sheet_case: None, sheet_series: None, seconds: u64::MAX };
     let mut words = std::env::args().skip(1);
     while let Some(word) = words.next() {
         let number = words.next()?.parse().ok()?;
@@ -36,6 +40,8 @@ fn options() -> Option<Options> {
             "--seed" => options.seed = number,
             "--case" => options.case = Some(number),
             "--series" => options.series = Some(number),
+            "--sheet-case" => options.sheet_case = Some(number),
+            "--sheet-series" => options.sheet_series = Some(number),
             "--seconds" => options.seconds = number,
             _ => return None,
         }
@@ -65,7 +71,10 @@ fn main() -> ExitCode {
 fn soak(options: &Options) -> Result<(), String> {
     let begun = Instant::now();
     let (mut seen, mut seen_series) = (Seen::default(), series::Seen::default());
-    let alone = options.case.is_some() || options.series.is_some();
+    let (mut seen_on_sheets, mut seen_series_on_sheets) = (sheets::Seen::default(), series::Seen::default());
+    let asked = [options.case, options.series, options.sheet_case, options.sheet_series];
+    let alone = asked.iter().any(Option::is_some);
+    let failed = |what: &str, number: u64, difference| format!("seed {}, {what} {number}: {difference}", options.seed);
     for round in 0.. {
         let numbers = |asked: Option<u64>, length: u64| match asked {
             Some(number) => number..number + 1,
@@ -84,8 +93,21 @@ fn soak(options: &Options) -> Result<(), String> {
         }
         if !series.is_empty() {
             let more = series::run(options.seed, series.clone());
-            seen_series.add(more.map_err(|(number, what)| format!("seed {}, series {number}: {what}", options.seed))?);
+            seen_series.add(more.map_err(|(number, what)| failed("series", number, what))?);
             println!("{} s, up to series {}: {seen_series}", begun.elapsed().as_secs(), series.end - 1);
+        }
+        let (cases, series) =
+            (numbers(options.sheet_case, ROUND_ON_SHEETS), numbers(options.sheet_series, ROUND_ON_SHEETS));
+        if !cases.is_empty() {
+            let more = sheets::run(options.seed, cases.clone());
+            seen_on_sheets.add(more.map_err(|(number, what)| failed("case on a sheet", number, what))?);
+            println!("{} s, up to case {} on a sheet: {seen_on_sheets}", begun.elapsed().as_secs(), cases.end - 1);
+        }
+        if !series.is_empty() {
+            let more = series::run_on_sheets(options.seed, series.clone());
+            seen_series_on_sheets.add(more.map_err(|(number, what)| failed("series on a sheet", number, what))?);
+            let seconds = begun.elapsed().as_secs();
+            println!("{seconds} s, up to series {} on a sheet: {seen_series_on_sheets}", series.end - 1);
         }
         if alone || begun.elapsed().as_secs() >= options.seconds {
             break;
