@@ -12,6 +12,7 @@ pub mod damage;
 pub mod demand3;
 pub mod outlines;
 pub mod placements;
+pub mod printing;
 pub mod random;
 pub mod series;
 pub mod sheets;

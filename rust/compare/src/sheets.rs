@@ -9,7 +9,8 @@ use crate::outlines::{self, Outline};
 use crate::random::Random;
 use crate::{cells_alone, damage, damaged_building, damaged_placing, demand3, grouped, pictures, placements};
 use crate::{on_all_processors, Tally};
-use reference::{Cell, Edge, Placement, Rules, SheetTile, Spec, STEPS};
+use mattuliyan::Refusal;
+use reference::{Cell, Edge, Placement, Question, Rules, SheetTile, Spec, STEPS};
 use std::fmt::{Display, Formatter};
 use std::ops::Range;
 
@@ -114,6 +115,53 @@ impl Display for Seen {
 pub fn for_library(place: SheetTile) -> mattuliyan::SheetTile {
     let SheetTile { sheet, side, column, row } = place;
     mattuliyan::SheetTile { sheet, side, column, row }
+}
+
+/// A sheet as the library draws it, its tiles put together.
+pub struct Together {
+    pub edges: u32,
+    /// the sum of the tiles' roots
+    pub roots: i64,
+    /// row by row of the sheet
+    pub greys: Vec<u8>,
+    /// how many greys there are in a row
+    pub across: usize,
+}
+
+/// The number of the question about the level.
+const LEVEL: u8 = Question::Level as u8;
+
+/// Draws the sheet on which this outline lies, as placed, in tiles of this side: or the number of the refusal. The level is that of the sheet, of which
+/// every tile has at least one cell; another is answered with the number of that question.
+pub fn put_together(outline: &Outline, side: u32, level: u32, placement: Placement) -> Result<Together, u8> {
+    let sheet = outline.side;
+    let table = |place: SheetTile| {
+        // 14 is asked for before the table's length, so a side that is too great needs no table of its own
+        let across = place.side.min(SIDES_ON_SHEET[SIDES_ON_SHEET.len() - 1]) as usize;
+        let mut table = vec![0; across * across];
+        let (place, placement) = (for_library(place), placements::for_library(placement));
+        let edges = mattuliyan::build_on_sheet(place, &outline.points, &outline.counts, placement, &mut table);
+        edges.map(|edges| (edges, table)).map_err(Refusal::number)
+    };
+    // sides that are none are refused by the first tile, and so is what would be refused by every one
+    let (edges, _) = table(SheetTile { sheet, side, column: 0, row: 0 })?;
+    let tiles = (sheet / side) as usize;
+    let level = level.checked_sub(tiles.trailing_zeros()).ok_or(LEVEL)?;
+    // a level past the tile's depth is refused for itself, whatever the places
+    let cells = 1 << level.min(side.trailing_zeros());
+    let across = tiles * cells;
+    let mut together = Together { edges, roots: 0, greys: vec![0; across * across], across };
+    for place in SheetTile::all(sheet, side) {
+        let (_, table) = table(place)?;
+        let mut greys = vec![0; cells * cells];
+        mattuliyan::greys(side, level, &table, &mut greys).map_err(Refusal::number)?;
+        together.roots += table[0];
+        let corner = (place.row as usize * across + place.column as usize) * cells;
+        for (row, greys) in greys.chunks(cells).enumerate() {
+            together.greys[corner + row * across..][..cells].copy_from_slice(greys);
+        }
+    }
+    Ok(together)
 }
 
 /// Any tile of such a sheet.

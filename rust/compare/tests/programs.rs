@@ -1,6 +1,6 @@
-//! The programs as a person or `draw` runs them: the page of `exact`, `placed`, and `soak`.
+//! The programs as a person or `draw` runs them: the page of `exact`, `placed`, `tiled`, and `soak`.
 use compare::outlines::Outline;
-use reference::{Placement, Spec};
+use reference::{Placement, SheetTile, Spec};
 use std::fs;
 use std::io::Write;
 use std::path::{Path, PathBuf};
@@ -136,13 +136,18 @@ fn wrong_answers_are_told() {
 const TURN: Placement = Placement::Turn([0.875, 0.0625, 32.5, -0.0625, 0.875, 64.0]);
 const TURN_WORDS: [&str; 7] = ["--turn", "0.875", ".0625", "32.5", "-0.0625", "+0.875", "64"];
 
-fn placed(words: &[&str], frame: &str) -> Output {
-    let mut placed = Command::new(env!("CARGO_BIN_EXE_placed"));
+/// Runs a program that reads a frame.
+fn reads(program: &str, words: &[&str], frame: &str) -> Output {
+    let mut program = Command::new(program);
     let mut running =
-        placed.args(words).stdin(Stdio::piped()).stdout(Stdio::piped()).stderr(Stdio::piped()).spawn().unwrap();
+        program.args(words).stdin(Stdio::piped()).stdout(Stdio::piped()).stderr(Stdio::piped()).spawn().unwrap();
     // where its words are wrong it does not read, and the pipe may be closed already
     let _ = running.stdin.take().unwrap().write_all(frame.as_bytes());
     running.wait_with_output().unwrap()
+}
+
+fn placed(words: &[&str], frame: &str) -> Output {
+    reads(env!("CARGO_BIN_EXE_placed"), words, frame)
 }
 
 /// What the tile program prints for the frame, at this level, of the outline as placed.
@@ -177,6 +182,59 @@ fn placed_frames() {
         [&["--scale"][..], &["--scale", "x"], &["--scale", "1", "1"], &["--shift", "1"], &TURN_WORDS[..6], &["--else"]]
     {
         let output = placed(words, FRAME);
+        assert_eq!((output.status.code(), text(&output.stdout).as_str()), (Some(2), ""), "{words:?}");
+    }
+}
+
+/// What is printed of the frame's outline as placed, on a sheet of its side, by the reference: its tiles are drawn and put together.
+fn expected_in_tiles(side: u32, placement: Placement) -> String {
+    let reference::Frame { side: sheet, points, counts, .. } = reference::frame(FRAME.as_bytes()).unwrap();
+    let (mut roots, mut rows) = (0, vec![String::new(); sheet as usize]);
+    for place in SheetTile::all(sheet, side) {
+        let entries = (side * side) as usize;
+        let (_, table) =
+            reference::build_on_sheet(&Spec, place, &points, &counts, placement, &vec![0; entries]).unwrap();
+        roots += table[0];
+        let greys = reference::greys(&Spec, side, side.trailing_zeros(), &table, entries).unwrap();
+        for (row, greys) in rows[(place.row * side) as usize..].iter_mut().zip(greys.chunks(side as usize)) {
+            row.extend(greys.iter().map(|grey| format!("{grey:02x}")));
+        }
+    }
+    format!("{:04x}{roots:016x}\n{}\n", counts.iter().sum::<u32>(), rows.join("\n"))
+}
+
+#[test]
+fn frames_in_tiles() {
+    let tiled = |words: &[&str], frame: &str| reads(env!("CARGO_BIN_EXE_tiled"), words, frame);
+    let printed = |words: &[&str], frame: &str| {
+        let output = tiled(words, frame);
+        assert!(output.status.success() && output.stderr.is_empty(), "{words:?}: {}", text(&output.stderr));
+        text(&output.stdout)
+    };
+    for side in [1, 2, 4] {
+        let word = side.to_string();
+        assert_eq!(printed(&[&word], FRAME), expected_in_tiles(side, Placement::None));
+        assert_eq!(printed(&[&[&word[..]], &TURN_WORDS[..]].concat(), FRAME), expected_in_tiles(side, TURN));
+    }
+    // one tile is the letter alone
+    assert_eq!(printed(&["4"], FRAME), reference::tile_program(&Spec, FRAME.as_bytes()));
+    for (words, frame, refused) in [
+        (&["1"][..], "0203\n", "refused 07\n"),
+        (&["1"], "0200\n", "refused 07\n"),
+        (&["2"], "04ff\n", "refused 07\n"),
+        (&["4"], "0201\n", "refused 14\n"),
+        (&["64"], "8007\n", "refused 14\n"),
+        (&["4294967295"], "8007\n", "refused 14\n"),
+        (&["0"], "8007\n", "refused 14\n"),
+        (&["32"], "ff00\n", "refused 14\n"),
+        (&["1"], "0201", "refused 11\n"),
+        (&["1", "--scale", "1.3"], "0201\n", "refused 12\n"),
+        (&["1", "--scale", "-1"], FRAME, "refused 06\n"),
+    ] {
+        assert_eq!(printed(words, frame), refused, "{words:?}, {frame:?}");
+    }
+    for words in [&[][..], &["--scale", "1"], &["x"], &["-1"], &["4294967296"], &["1", "1"], &["1", "--scale"]] {
+        let output = tiled(words, FRAME);
         assert_eq!((output.status.code(), text(&output.stdout).as_str()), (Some(2), ""), "{words:?}");
     }
 }

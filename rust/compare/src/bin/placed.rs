@@ -1,10 +1,9 @@
 //! A frame's outline as placed, drawn by the library: what the tile program would print for a frame of the placed outline. A frame has no
 //! placement, so `draw` calls this program where one is given.
-use compare::placements;
+use compare::{placements, printing};
 use mattuliyan::Refusal;
 use reference::Placement;
 use std::ffi::OsString;
-use std::io::{Read, Write};
 use std::process::ExitCode;
 
 const USAGE: &str = "usage: placed [--shift X Y | --scale S | --turn A B C D E F]
@@ -16,14 +15,7 @@ fn main() -> ExitCode {
         eprintln!("{USAGE}");
         return ExitCode::from(2);
     };
-    let mut text = Vec::new();
-    let read = std::io::stdin().read_to_end(&mut text);
-    let answer = printed(&text, placement).unwrap_or_else(|number| format!("refused {number:02}\n"));
-    if let Err(error) = read.and_then(|_| std::io::stdout().write_all(answer.as_bytes())) {
-        eprintln!("placed: {error}");
-        return ExitCode::from(2);
-    }
-    ExitCode::SUCCESS
+    printing::answer("placed", |text| printed(text, placement))
 }
 
 fn printed(text: &[u8], placement: Placement) -> Result<String, u8> {
@@ -36,10 +28,5 @@ fn printed(text: &[u8], placement: Placement) -> Result<String, u8> {
     let across = 1 << frame.level.min(frame.side.trailing_zeros());
     let mut greys = vec![0; across * across];
     mattuliyan::greys(frame.side, frame.level, &table, &mut greys).map_err(Refusal::number)?;
-    let mut text = format!("{edges:04x}{:016x}\n", table[0]);
-    for row in greys.chunks(across) {
-        text.extend(row.iter().map(|grey| format!("{grey:02x}")));
-        text.push('\n');
-    }
-    Ok(text)
+    Ok(printing::in_form(edges, table[0], &greys, across))
 }
