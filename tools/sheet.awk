@@ -1,10 +1,10 @@
-# Lays a letter's tiles side by side: each enlarged to the same box, and its true size beneath.
+# Lays a letter's pictures side by side: each enlarged to the same box, and its true size beneath.
 #
 # Reads plain PGM files. Prints width and height of the sheet on a line, each scanline of a PNG on a line, and the
 # Adler-32 of all scanlines on the last, everything as octal escapes for printf(1): not every awk can write a byte 0.
 
 BEGIN {
-    box = 192 # a multiple of every side that a tile can have
+    box = 192 # a multiple of every side that a tile can have; twice as much is one of every sheet's
     gap = 16
     paper = 176 # the sheet around the tiles, told apart from white and from ink
     low = 1 # the two sums of the Adler-32
@@ -47,6 +47,7 @@ function row(tile, y, scale,   x, free) {
 }
 
 END {
+    if (tallest > 64) box *= 2
     width = gap + tiles * (box + gap)
     print bytes(width) bytes(gap + box + gap + tallest + gap)
     blank(gap)
