@@ -1,16 +1,20 @@
-// The seven calls for programs in C or Rust: `include/mattuliyan.h` declares them, and says what its caller owes.
+// The ten calls for programs in C or Rust: `include/mattuliyan.h` declares them, and says what its caller owes.
 //
-// A slice is passed as a pointer and a length. A call of `tile` that answers two numbers answers the first, that of the refusal or 0, and writes the
-// second through a pointer.
+// A slice is passed as a pointer and a length, a place on a sheet as its four numbers. A call that answers two numbers answers the first, that of the refusal or
+// 0, and writes the second through a pointer.
 ghost use mathlib.Core.Path.{_≡_};
 ghost use lib.ListN.{length};
 ghost use Rattle.tile.specs.Outcomes.{buildResult, buildTable, placedResult, placedTable, drawRefusal, figuresPicture, greysPicture, cellResult};
 ghost use Rattle.tile.specs.Faithful.{Faithful, FaithfulPlaced};
-ghost use Rattle.tile.specs.Corrections.{tileOf, putting, taking, correctRefusal, corrected};
-ghost use Rattle.tile.specs.Holding.{HoldsOneMore, HoldsOneLess};
+ghost use Rattle.sheet.specs.SheetOutcomes.{sheetResult, sheetTable};
+ghost use Rattle.sheet.specs.FaithfulOnSheet.{FaithfulOnSheet};
+ghost use Rattle.sheet.specs.TilesAddUp.{tileAt};
+ghost use Rattle.corrections.specs.Corrections.{tileOf, putting, taking, puttingOn, takingOn, correctRefusal, corrected};
+ghost use Rattle.corrections.specs.Holding.{HoldsOneMore, HoldsOneLess};
 ghost use Rattle.tile_c.specs.PlacementNumbers.{placementOf};
 use placement::Matrix;
 use placement::Placement;
+use sheet::SheetTile;
 
 // How many numbers each placement has.
 const NUMBERS_OF_NONE: usize = 0;
@@ -92,7 +96,7 @@ pub extern "C" fn mattuliyan_build_placed(
     placed.number
 }
 
-// `tile::put`: `edges` is the record, read and written.
+// `corrections::put`: `edges` is the record, read and written.
 #[no_mangle]
 pub extern "C" fn mattuliyan_put(
     side: u32,
@@ -108,10 +112,10 @@ pub extern "C" fn mattuliyan_put(
     ensures { λ _. ⌜ HoldsOneMore (putting side (now (points .entry)) count (placementOf (now (placement .entry)))) (tileOf (now (table .entry)) (now (edges .entry))) (tileOf (now (table .exit)) (now (edges .exit))) ⌝ }
     ensures { λ _. ⌜ (now (points .exit) ≡ now (points .entry)) × (now (placement .exit) ≡ now (placement .entry)) ⌝ }
 {
-    tile::put(side, points, count, placement_of(placement), edges, table)
+    corrections::put(side, points, count, placement_of(placement), edges, table)
 }
 
-// `tile::take`: `edges` is the record, read and written.
+// `corrections::take`: `edges` is the record, read and written.
 #[no_mangle]
 pub extern "C" fn mattuliyan_take(
     side: u32,
@@ -127,7 +131,90 @@ pub extern "C" fn mattuliyan_take(
     ensures { λ _. ⌜ HoldsOneLess (taking side (now (points .entry)) count (placementOf (now (placement .entry)))) (tileOf (now (table .entry)) (now (edges .entry))) (tileOf (now (table .exit)) (now (edges .exit))) ⌝ }
     ensures { λ _. ⌜ (now (points .exit) ≡ now (points .entry)) × (now (placement .exit) ≡ now (placement .entry)) ⌝ }
 {
-    tile::take(side, points, count, placement_of(placement), edges, table)
+    corrections::take(side, points, count, placement_of(placement), edges, table)
+}
+
+// A place on a sheet.
+fn place_of(sheet: u32, side: u32, column: u32, row: u32) -> SheetTile
+    ensures { λ p. ⌜ p ≡ tileAt sheet side column row ⌝ }
+{
+    SheetTile {
+        sheet,
+        side,
+        column,
+        row,
+    }
+}
+
+// `sheet::build_on_sheet`: the number, and the edge count into `edges`, 0 where it is refused.
+#[no_mangle]
+pub extern "C" fn mattuliyan_build_on_sheet(
+    sheet: u32,
+    side: u32,
+    column: u32,
+    row: u32,
+    points: &[i64],
+    counts: &[u32],
+    placement: &[f64],
+    table: &mut [i64],
+    edges: &mut u32,
+) -> u32
+    ensures { λ r. ⌜ r ≡ sheetResult (tileAt sheet side column row) (now (points .entry)) (now (counts .entry)) (placementOf (now (placement .entry))) (now (table .entry)) .number ⌝ }
+    ensures { λ _. ⌜ now (edges .exit) ≡ sheetResult (tileAt sheet side column row) (now (points .entry)) (now (counts .entry)) (placementOf (now (placement .entry))) (now (table .entry)) .edges ⌝ }
+    ensures { λ _. ⌜ now (table .exit) ≡ sheetTable (tileAt sheet side column row) (now (points .entry)) (now (counts .entry)) (placementOf (now (placement .entry))) (now (table .entry)) ⌝ }
+    ensures { λ _. ⌜ FaithfulOnSheet (tileAt sheet side column row) (now (points .entry)) (now (counts .entry)) (placementOf (now (placement .entry))) (now (table .entry)) (now (table .exit)) ⌝ }
+    ensures { λ _. ⌜ (now (points .exit) ≡ now (points .entry)) × (now (counts .exit) ≡ now (counts .entry)) × (now (placement .exit) ≡ now (placement .entry)) ⌝ }
+{
+    let place = place_of(sheet, side, column, row);
+    let built = sheet::build_on_sheet(place, points, counts, placement_of(placement), table);
+    *edges = built.edges;
+    built.number
+}
+
+// `corrections::put_on_sheet`: `edges` is the record, read and written.
+#[no_mangle]
+pub extern "C" fn mattuliyan_put_on_sheet(
+    sheet: u32,
+    side: u32,
+    column: u32,
+    row: u32,
+    points: &[i64],
+    count: u32,
+    placement: &[f64],
+    edges: &mut u32,
+    table: &mut [i64],
+) -> u32
+    ensures { λ r. ⌜ r ≡ correctRefusal (puttingOn (tileAt sheet side column row) (now (points .entry)) count (placementOf (now (placement .entry)))) (tileOf (now (table .entry)) (now (edges .entry))) ⌝ }
+    ensures { λ _. ⌜ now (edges .exit) ≡ corrected (puttingOn (tileAt sheet side column row) (now (points .entry)) count (placementOf (now (placement .entry)))) (tileOf (now (table .entry)) (now (edges .entry))) .edges ⌝ }
+    ensures { λ _. ⌜ now (table .exit) ≡ corrected (puttingOn (tileAt sheet side column row) (now (points .entry)) count (placementOf (now (placement .entry)))) (tileOf (now (table .entry)) (now (edges .entry))) .table ⌝ }
+    ensures { λ _. ⌜ HoldsOneMore (puttingOn (tileAt sheet side column row) (now (points .entry)) count (placementOf (now (placement .entry)))) (tileOf (now (table .entry)) (now (edges .entry))) (tileOf (now (table .exit)) (now (edges .exit))) ⌝ }
+    ensures { λ _. ⌜ (now (points .exit) ≡ now (points .entry)) × (now (placement .exit) ≡ now (placement .entry)) ⌝ }
+{
+    let place = place_of(sheet, side, column, row);
+    corrections::put_on_sheet(place, points, count, placement_of(placement), edges, table)
+}
+
+// `corrections::take_on_sheet`: `edges` is the record, read and written.
+#[no_mangle]
+pub extern "C" fn mattuliyan_take_on_sheet(
+    sheet: u32,
+    side: u32,
+    column: u32,
+    row: u32,
+    points: &[i64],
+    count: u32,
+    placement: &[f64],
+    edges: &mut u32,
+    table: &mut [i64],
+) -> u32
+    ensures { λ r. ⌜ r ≡ correctRefusal (takingOn (tileAt sheet side column row) (now (points .entry)) count (placementOf (now (placement .entry)))) (tileOf (now (table .entry)) (now (edges .entry))) ⌝ }
+    ensures { λ _. ⌜ now (edges .exit) ≡ corrected (takingOn (tileAt sheet side column row) (now (points .entry)) count (placementOf (now (placement .entry)))) (tileOf (now (table .entry)) (now (edges .entry))) .edges ⌝ }
+    ensures { λ _. ⌜ now (table .exit) ≡ corrected (takingOn (tileAt sheet side column row) (now (points .entry)) count (placementOf (now (placement .entry)))) (tileOf (now (table .entry)) (now (edges .entry))) .table ⌝ }
+    ensures { λ _. ⌜ HoldsOneLess (takingOn (tileAt sheet side column row) (now (points .entry)) count (placementOf (now (placement .entry)))) (tileOf (now (table .entry)) (now (edges .entry))) (tileOf (now (table .exit)) (now (edges .exit))) ⌝ }
+    ensures { λ _. ⌜ (now (points .exit) ≡ now (points .entry)) × (now (placement .exit) ≡ now (placement .entry)) ⌝ }
+{
+    let place = place_of(sheet, side, column, row);
+    corrections::take_on_sheet(place, points, count, placement_of(placement), edges, table)
 }
 
 // `tile::figures`.

@@ -1,8 +1,8 @@
 -- The numbers are a placement.
 use mathlib.Core.Path.{refl, _∙_, ap, subst}
 use borrow.Author.Needs.{needs}
-use Rattle.tile.specs.Corrections.{tileOf, putting, correctRefusal, corrected}
-use Rattle.tile.specs.Holding.{HoldsOneMore}
+use Rattle.corrections.specs.Corrections.{tileOf, putting, correctRefusal, corrected}
+use Rattle.corrections.specs.Holding.{HoldsOneMore}
 use Rattle.tile_c.proofs.mattuliyan_put.Statement.{statement}
 use Rattle.tile_c.proofs.mattuliyan_put.Tie as tie
 

@@ -1,8 +1,8 @@
 -- The numbers are a placement.
 use mathlib.Core.Path.{refl, _∙_, ap, subst}
 use borrow.Author.Needs.{needs}
-use Rattle.tile.specs.Corrections.{tileOf, taking, correctRefusal, corrected}
-use Rattle.tile.specs.Holding.{HoldsOneLess}
+use Rattle.corrections.specs.Corrections.{tileOf, taking, correctRefusal, corrected}
+use Rattle.corrections.specs.Holding.{HoldsOneLess}
 use Rattle.tile_c.proofs.mattuliyan_take.Statement.{statement}
 use Rattle.tile_c.proofs.mattuliyan_take.Tie as tie
 
