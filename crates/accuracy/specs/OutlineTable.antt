@@ -5,11 +5,19 @@
 --   outlineTable depth es                 the sums over the edges
 --   rootedTable, tableFrom                the same with another root
 --   tileRoot, tileTable depth es          and with the root that a tile of a sheet has: edges may lie beyond the tile
-use mathlib.Core.List.{List}
+use mathlib.Core.Path.{_≡_, refl}
+use mathlib.Core.List.{List, [], _∷_}
 use Prim.Native.Nat.{ℕ}
-use lib.IntN.{ℤ}
+use lib.IntN.{ℤ, pos}
+use Rattle.integers.specs.MinMax.{min, max}
+use Rattle.integers.specs.Clamp.{clamp}
+use Rattle.integers.specs.RangeSum.{Σ<}
+use Rattle.integers.specs.Trapezoid.{S}
+use Rattle.integers.specs.Rounding.{nearestℕ, roundHalfAway}
 use Rattle.integers.specs.ListSum.{total}
 use Rattle.edge.specs.declared.Edge.{Edge}
+use Rattle.edge.specs.Walk.{extent, sign}
+use Rattle.edge.specs.Integrals.{areaNum}
 use Rattle.edge.specs.Rounded.{details, rootTerm, roundedArea}
 use Rattle.haar.specs.Table.{Coefficients}
 use Rattle.haar.specs.Plane.{dimensions}
@@ -36,6 +44,22 @@ tableFrom root depth es = record { root = root; detail = outlineTable depth es .
 -- too: to the right of it, in its rows.
 abbrev pub tileRoot : ℕ → List Edge → ℤ
 tileRoot depth es = total (λ e. roundedArea e (tile depth)) es
+
+-- Two checks, on a tile of one pixel. An edge to the right of it counts, with the pixel's whole width: one that runs a step down there has 256 square steps, 512
+-- units. And each edge's part is rounded on its own: two of 511 1/2 units come to 1,024.
+abbrev beside : Edge
+beside = record { x0 = pos 600; y0 = pos 0; x1 = pos 600; y1 = pos 1 }
+
+abbrev across : Edge
+across = record { x0 = pos 255; y0 = pos 0; x1 = pos 257; y1 = pos 1 }
+
+edge-beside-counts : tileRoot 0 (beside ∷ []) ≡ pos 512
+unfolding total roundedArea areaNum extent sign S Σ< clamp min max roundHalfAway nearestℕ
+edge-beside-counts = refl
+
+each-part-rounded : tileRoot 0 (across ∷ across ∷ []) ≡ pos 1024
+unfolding total roundedArea areaNum extent sign S Σ< clamp min max roundHalfAway nearestℕ
+each-part-rounded = refl
 
 abbrev pub tileTable : ℕ → List Edge → Coefficients dimensions
 tileTable depth es = tableFrom (tileRoot depth es) depth es

@@ -166,9 +166,9 @@ pub extern "C" fn mattuliyan_build_on_sheet(
     ensures { λ _. ⌜ (now (points .exit) ≡ now (points .entry)) × (now (counts .exit) ≡ now (counts .entry)) × (now (placement .exit) ≡ now (placement .entry)) ⌝ }
 {
     let place = place_of(sheet, side, column, row);
-    let built = sheet::build_on_sheet(place, points, counts, placement_of(placement), table);
-    *edges = built.edges;
-    built.number
+    let drawn = sheet::build_on_sheet(place, points, counts, placement_of(placement), table);
+    *edges = drawn.edges;
+    drawn.number
 }
 
 // `corrections::put_on_sheet`: `edges` is the record, read and written.
