@@ -14,6 +14,7 @@ use Rattle.integers.specs.Clamp.{clamp}
 use Rattle.integers.specs.RangeSum.{Σ<}
 use Rattle.integers.specs.Trapezoid.{S}
 use Rattle.integers.specs.Rounding.{nearestℕ, roundHalfAway}
+use Rattle.integers.specs.Fraction.{common, numer}
 use Rattle.integers.specs.ListSum.{total}
 use Rattle.edge.specs.declared.Edge.{Edge}
 use Rattle.edge.specs.Walk.{extent, sign}
@@ -46,7 +47,8 @@ abbrev pub tileRoot : ℕ → List Edge → ℤ
 tileRoot depth es = total (λ e. roundedArea e (tile depth)) es
 
 -- Two checks, on a tile of one pixel. An edge to the right of it counts, with the pixel's whole width: one that runs a step down there has 256 square steps, 512
--- units. And each edge's part is rounded on its own: two of 511 1/2 units come to 1,024.
+-- units. And each edge's part is rounded on its own: two of 511 1/2 units come to 1,024. (What another root would be had of is unfolded
+-- too, so that one that is wrong computes, and is told apart by its value.)
 abbrev beside : Edge
 beside = record { x0 = pos 600; y0 = pos 0; x1 = pos 600; y1 = pos 1 }
 
@@ -54,11 +56,11 @@ abbrev across : Edge
 across = record { x0 = pos 255; y0 = pos 0; x1 = pos 257; y1 = pos 1 }
 
 edge-beside-counts : tileRoot 0 (beside ∷ []) ≡ pos 512
-unfolding total roundedArea areaNum extent sign S Σ< clamp min max roundHalfAway nearestℕ
+unfolding total roundedArea areaNum extent sign S Σ< clamp min max roundHalfAway nearestℕ numer common rootTerm
 edge-beside-counts = refl
 
 each-part-rounded : tileRoot 0 (across ∷ across ∷ []) ≡ pos 1024
-unfolding total roundedArea areaNum extent sign S Σ< clamp min max roundHalfAway nearestℕ
+unfolding total roundedArea areaNum extent sign S Σ< clamp min max roundHalfAway nearestℕ numer common rootTerm
 each-part-rounded = refl
 
 abbrev pub tileTable : ℕ → List Edge → Coefficients dimensions
