@@ -40,7 +40,7 @@ use Rattle.tile.specs.Laws.BuiltTable.{built-is, table-length}
 module _ (side : ℕ) (points : List ℤ) (counts : List ℕ) (before : List ℤ) (done : buildRefusal side points counts before ≡ 0) where
   pub built-length : length (buildTable side points counts before) ≡ side * side
   built-length =
-      ap length (built-is side points counts before done) ∙ table-length side (signedArea (edgesOf points counts)) (edgesOf points counts) (accepted side points counts before done .is-side)
+      ap length (built-is side points counts before done) ∙ table-length side (edgesOf points counts) (accepted side points counts before done .is-side)
 
   pub built-root : getD (buildTable side points counts before) 0 (pos 0) ≡ signedArea (edgesOf points counts)
   built-root =

@@ -34,7 +34,7 @@ use Rattle.tile.specs.Laws.IfDone.{if-done}
 use Rattle.tile.specs.Laws.Sides.{side-power}
 use Rattle.tile.specs.Laws.Answers.{in-range-entries}
 use Rattle.tile.specs.Laws.Accepted.{Accepted, accepted, accepted-count, AcceptedEdges, accepted-edges}
-use Rattle.tile.specs.Laws.BuiltTable.{table-length, table-same, table-in-range}
+use Rattle.tile.specs.Laws.BuiltTable.{tableWith-length, table-same, table-in-range}
 use Rattle.tile.specs.Laws.DrawnTable.{LevelYes, drawn-accepted, cell-accepted}
 use Rattle.tile.specs.Laws.DrawnArea.{area-within}
 
@@ -56,7 +56,7 @@ module _ {side : ℕ} {rootOf : List Edge → ℤ} {twiceLimit : ℕ → ℕ →
   yes : LevelYes side level table
   yes = record {
     yes1 = a .is-side;
-    yes2 = question2-means side table .1 (table-length side (rootOf es) es (a .is-side));
+    yes2 = question2-means side table .1 (tableWith-length side (rootOf es) es (a .is-side));
     yes7 = question7-means side level .1 shallow;
     yes9 = in-range-entries table (table-in-range a);
   }
