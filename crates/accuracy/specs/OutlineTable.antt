@@ -47,8 +47,8 @@ abbrev pub tileRoot : ℕ → List Edge → ℤ
 tileRoot depth es = total (λ e. roundedArea e (tile depth)) es
 
 -- Two checks, on a tile of one pixel. An edge to the right of it counts, with the pixel's whole width: one that runs a step down there has 256 square steps, 512
--- units. And each edge's part is rounded on its own: two of 511 1/2 units come to 1,024. (What another root would be had of is unfolded
--- too, so that one that is wrong computes, and is told apart by its value.)
+-- units. And each edge's part is rounded on its own: two of 511 1/2 units come to 1,024. (`numer`, `common` and `rootTerm` are
+-- unfolded so that a root that is wrong, by one rounding or by the signed area, is refused by its value.)
 abbrev beside : Edge
 beside = record { x0 = pos 600; y0 = pos 0; x1 = pos 600; y1 = pos 1 }
 

@@ -16,6 +16,7 @@ use Rattle.integers.specs.Fraction.{numer}
 use Rattle.edge.specs.declared.Edge.{Edge}
 use Rattle.edge.specs.Walk.{steps}
 use Rattle.edge.specs.Integrals.{areaNum}
+use Rattle.edge.specs.Octilinear.{Octilinear}
 use Rattle.haar.specs.Plane.{at}
 use Rattle.placement.specs.declared.Placement.{Placement}
 use Rattle.placement.specs.Placed.{placed}
@@ -46,6 +47,8 @@ pub record FaithfulOnSheet (place : SheetTile) (points : List ℤ) (counts : Lis
       → (exactAreaNum (depthOf (place .side)) (seenFromTile place (edgesOf (placed placement points) counts)) level (at cx cy)
       ≡ exactAreaOnSheet place (edgesOf (placed placement points) counts) level cx cy)
       × (denominator (seenFromTile place (edgesOf (placed placement points) counts)) ≡ denominator (edgesOf (placed placement points) counts))
+  -- and its edges are level, upright or at 45 degrees, where nothing is missed, if those of the outline on the sheet are
+  pub octilinear : All Octilinear (edgesOf (placed placement points) counts) → All Octilinear (seenFromTile place (edgesOf (placed placement points) counts))
   -- a letter that lies wholly on the tile, wherever that is on the sheet, has its exact signed area for the root
   pub wholly-on : All (EdgeOnTile (depthOf (place .side))) (seenFromTile place (edgesOf (placed placement points) counts))
       → tileRoot (depthOf (place .side)) (seenFromTile place (edgesOf (placed placement points) counts)) ≡ signedArea (edgesOf (placed placement points) counts)

@@ -13,6 +13,8 @@ pub mod SheetRefusals
 -- ---- demands 2 and 3: the claim, and that it holds
 pub mod FaithfulOnSheet
 pub mod SheetTheorem
+-- each entry by itself
+pub mod SheetEntries
 -- the tiles' roots add up to the outline's area
 pub mod TilesAddUp
 -- a sheet that is one tile is a tile alone

@@ -24,7 +24,7 @@ use Rattle.accuracy.specs.Laws.Contours.{outline-closed, outline-on-tile}
 use Rattle.accuracy.specs.Laws.Coordinates.{contoursOf-count, contoursOf-on-tile}
 use Rattle.accuracy.specs.Laws.Denominator.{denominator-pos}
 use Rattle.accuracy.specs.Laws.Roots.{root-wholly-on}
-use Rattle.accuracy.specs.Laws.SheetTiles.{from-tile-area, from-tile-closed, from-tile-length, from-tile-signed}
+use Rattle.accuracy.specs.Laws.SheetTiles.{from-tile-area, from-tile-closed, from-tile-length, from-tile-octilinear, from-tile-signed}
 use Rattle.tile.specs.Questions.{Yes, depthOf, question2, question12}
 use Rattle.tile.specs.Outcomes.{edgesOf}
 use Rattle.tile.specs.Refusals.{question2-means, question3-means, question5-means}
@@ -93,6 +93,7 @@ module _ (place : SheetTile) (points : List ℤ) (counts : List ℕ) (placement 
       drawn = drawn-level;
     };
     at-place = λ level cx cy. (let same = from-tile-area (depthOf (place .side)) (place .column) (place .row) es level (at cx cy) in (same .1, same .0));
+    octilinear = from-tile-octilinear (depthOf (place .side)) (place .column) (place .row) es;
     wholly-on = λ on.
         root-wholly-on (depthOf (place .side)) (from-tile-closed (depthOf (place .side)) (place .column) (place .row) (outline-closed (contoursOf counts drawn))) on
         ∙ from-tile-signed (depthOf (place .side)) (place .column) (place .row) (outline-closed (contoursOf counts drawn));

@@ -112,6 +112,7 @@ fn place_refusal(place: SheetTile, table: &[i64]) -> u32
 // The questions about a tile, alone or on a sheet: the first "no", or 0.
 pub fn site_refusal(site: Site, table: &[i64]) -> u32
     ensures { λ r. ⌜ r ≡ firstNo (siteQuestions site (now (table .entry))) ⌝ }
+    ensures { λ _. ⌜ now (table .exit) ≡ now (table .entry) ⌝ }
 {
     match site {
         Site::Alone(side) => tile::tile_refusal(side, table),

@@ -137,6 +137,7 @@ fn are_counts(counts: &[u32]) -> bool
 // The counts' sum, or one more than the most edges where it is greater: there may be any number of counts, and their sum may pass what a word holds.
 pub fn edges_of(counts: &[u32]) -> usize
     ensures { λ r. ⌜ r ≡ cappedEdges (now (counts .entry)) ⌝ }
+    ensures { λ _. ⌜ now (counts .exit) ≡ now (counts .entry) ⌝ }
 {
     let mut sum = 0;
     let mut i = 0;
@@ -171,6 +172,7 @@ fn is_picture(level: u32, size: usize) -> bool
 pub fn search_entries(table: &[i64]) -> Searched
     ensures { λ s. ⌜ s .within ≡ question9 (now (table .entry)) .answer ⌝ }
     ensures { λ s. ⌜ s .looked ≡ entriesLookedAt (now (table .entry)) ⌝ }
+    ensures { λ _. ⌜ now (table .exit) ≡ now (table .entry) ⌝ }
 {
     integers::search_within(table, -ENTRY_LIMIT, ENTRY_LIMIT)
 }
@@ -187,6 +189,7 @@ fn is_cell(level: u32, cx: u32, cy: u32) -> bool
 // The questions about a tile alone: the first "no", or 0.
 pub fn tile_refusal(side: u32, table: &[i64]) -> u32
     ensures { λ r. ⌜ r ≡ firstNo (tableQuestions side (now (table .entry))) ⌝ }
+    ensures { λ _. ⌜ now (table .exit) ≡ now (table .entry) ⌝ }
 {
     if !is_side(side) {
         return NO_SIDE;
@@ -206,6 +209,7 @@ pub fn outline_refusal(
     already: u32,
 ) -> u32
     ensures { λ r. ⌜ r ≡ firstNo (outlineQuestions reach (now (points .entry)) (now (counts .entry)) placement already) ⌝ }
+    ensures { λ _. ⌜ (now (points .exit) ≡ now (points .entry)) × (now (counts .exit) ≡ now (counts .entry)) ⌝ }
 {
     if !are_counts(counts) {
         return NO_COUNT;

@@ -3,6 +3,7 @@
 -- Main results
 --   from-tile-closed,
 --   from-tile-length             closed edges are closed as seen from any tile, and as many
+--   from-tile-octilinear         level, upright or at 45 degrees as before
 --   from-tile-on                 edges on the sheet are on the sheet as it is seen from there
 --   from-tile-signed             and enclose the same signed area
 --   from-tile-area               the exact area of a tile's cell is 01's, of the edges as they are and of the cell at its place on the sheet
@@ -18,7 +19,7 @@ use Rattle.integers.specs.Ring.{read, ring, comb, _⊗_, _⊕_}
 use Rattle.integers.specs.Order.{nonneg}
 use Rattle.integers.specs.Linear.{le, linear, lin≤}
 use Rattle.integers.specs.RangeSum.{Σ<, Σ-cong, Σ-scale}
-use Rattle.integers.specs.ListSum.{All, all-of, all-map, total, total-cong, total-add, total-map, total-range}
+use Rattle.integers.specs.ListSum.{All, all-of, all-map, all-image, total, total-cong, total-add, total-map, total-range}
 use Rattle.integers.specs.Fraction.{common, numer}
 use Rattle.integers.specs.Rounding.{roundHalfAway}
 use Rattle.integers.specs.RoundHalfAway.{roundHalfAway-mul}
@@ -32,7 +33,7 @@ use Rattle.edge.specs.Nested.{OnRange, OnCell, seenFrom, moved}
 use Rattle.edge.specs.Laws.StepCount.{steps-pos, rounded-whole, whole-kept}
 use Rattle.edge.specs.Laws.WholeTile.{rootBoundary, whole-tile}
 use Rattle.edge.specs.Laws.OctilinearEdges.{unitArea, area-octilinear}
-use Rattle.edge.specs.Laws.Translation.{steps-seen, area-seen, roundedArea-seen}
+use Rattle.edge.specs.Laws.Translation.{steps-seen, octilinear-seen, area-seen, roundedArea-seen}
 use Rattle.edge.specs.Laws.Tiling.{tileIn, area-tiles}
 use Rattle.haar.specs.Cells.{Cell}
 use Rattle.haar.specs.Plane.{dimensions}
@@ -53,6 +54,12 @@ from-tile-closed depth tx ty {es} closed = record {
 
 pub from-tile-length : (depth tx ty : ℕ) (es : List Edge) → length (fromTile depth tx ty es) ≡ length es
 from-tile-length depth tx ty es = length-map es (seenFrom (corner depth tx) (corner depth ty))
+
+pub from-tile-octilinear : (depth tx ty : ℕ) (es : List Edge) → All Octilinear es → All Octilinear (fromTile depth tx ty es)
+from-tile-octilinear depth tx ty es octilinear =
+    let a = corner depth tx in
+    let b = corner depth ty in
+    all-image Octilinear (seenFrom a b) es (all-map (octilinear-seen a b) es octilinear)
 
 -- a coordinate on the sheet, as seen from a
 seen-range : (a : ℤ) {w z : ℤ} → pos 0 ≤ℤ z → z ≤ℤ w → OnRange (pos 0 -ℤ a) w (z -ℤ a)

@@ -69,7 +69,7 @@ module _ (s : tie.Start) where
 returns : tie.Need-returns
 returns c =
     let s = c .before .before .before .before .before in
-    let e = c .before .site-refusal .ensures in
+    let e = c .before .site-refusal .ensures .0 in
     let n = e ∙ first-refused (first s) (second s) (λ z. c .if1 .taken (e ∙ z)) in
     let number = n ∙ first-refused (about s) (later s) (λ z. c .if1 .taken (n ∙ z)) in
     (number, (kept s number (c .if1 .taken), refl))
@@ -85,10 +85,10 @@ module _ (c : tie.After-outline-refusal) where
   asked : c .outline-refusal .result ≡ firstNo (about start)
   asked =
       let placed-in = on-site .before .before .before in
-      c .outline-refusal .ensures
+      c .outline-refusal .ensures .0
       ∙ ap₂ (λ r n. firstNo (outlineQuestions r (call start .points) (call start .count ∷ []) (call start .placement) n)) (c .before .before .reach-of .ensures)
       (placed-in .already-in .ensures)
-      ∙ sym (first-passed (first start) (second start) (site-zero (site start) (given start .table) (sym (on-site .before .site-refusal .ensures) ∙ on-site .if1 .left)))
+      ∙ sym (first-passed (first start) (second start) (site-zero (site start) (given start .table) (sym (on-site .before .site-refusal .ensures .0) ∙ on-site .if1 .left)))
 
 returns-2 : tie.Need-returns-2
 returns-2 c =

@@ -2,10 +2,10 @@
 -- the cell moved by (a, b). This is all that a sheet's tile (02, P5) needs to be drawn as 01's, which begins at the origin.
 --
 -- Main results
---   steps-seen                               the same number of steps
+--   steps-seen, octilinear-seen              the same number of steps; level, upright or at 45 degrees as before
 --   area-seen, h-seen, v-seen, d-seen        the four integrals
 --   details-seen, roundedArea-seen           and what is rounded of them
-use mathlib.Core.Path.{_≡_, _∙_, ap₂, fun-ext}
+use mathlib.Core.Path.{_≡_, sym, _∙_, ap, ap₂, fun-ext}
 use mathlib.Core.List.{[], _∷_}
 use Prim.Native.Nat.{ℕ, _*_}
 use lib.IntN.{ℤ, pos, negℤ, _+ℤ_, _-ℤ_, _*ℤ_}
@@ -19,6 +19,7 @@ use Rattle.edge.specs.declared.Axis.{Axis}
 use Rattle.edge.specs.Walk.{extent, sign, dx, dy, ax, ay, steps, xAxis, yAxis, beyond}
 use Rattle.edge.specs.Integrals.{along, areaNum, hNum, vNum, dNum}
 use Rattle.edge.specs.Rounded.{details, roundedArea}
+use Rattle.edge.specs.Octilinear.{Octilinear, level, upright, diagonal}
 use Rattle.edge.specs.Nested.{seenFrom, moved}
 
 -- ---- one direction, of any extent and sign
@@ -41,6 +42,11 @@ module _ (a b : ℤ) (e : Edge) where
 
   pub steps-seen : steps seen ≡ steps e
   steps-seen = ap₂ (λ u v. extent u * extent v) dx-seen dy-seen
+
+  pub octilinear-seen : Octilinear e → Octilinear seen
+  octilinear-seen (level flat) = level (dy-seen ∙ flat)
+  octilinear-seen (upright flat) = upright (dx-seen ∙ flat)
+  octilinear-seen (diagonal same) = diagonal (ap extent dx-seen ∙ same ∙ sym (ap extent dy-seen))
 
   module _ (c : Cell) where
     -- what is made of the two scales, of how far past the cell's left and top side the walk is after t steps, and of the number of steps

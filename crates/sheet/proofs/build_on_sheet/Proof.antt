@@ -89,7 +89,7 @@ module _ (c : tie.After-outline-refusal) where
 
   asked : c .outline-refusal .result ≡ number start
   asked =
-      c .outline-refusal .ensures
+      c .outline-refusal .ensures .0
       ∙ sym (first-passed (first start) (rest start) (firstNo-zero (first start) tt .0 (sym (c .before .before .place-refusal .ensures) ∙ c .before .if1 .left)))
       ∙ asked-is start
 
@@ -151,7 +151,7 @@ module _ (c : tie.After-edges-of) where
   at = cleared .before .before
 
   counted : c .edges-of .result ≡ edgeCount (entry at .args .counts .now)
-  counted = c .edges-of .ensures ∙ capped-within (entry at .args .counts .now) (accepted at .few-edges)
+  counted = c .edges-of .ensures .0 ∙ capped-within (entry at .args .counts .now) (accepted at .few-edges)
 
   left-there : added-all .add-outline .last .0 ≡ outcome (entry at)
   left-there =

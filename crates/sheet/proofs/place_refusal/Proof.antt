@@ -36,7 +36,7 @@ returns-3 : tie.Need-returns-3
 returns-3 c =
     let s = c .before .before .before .before .before in
     let p = s .args .place in
-    c .tile-refusal .ensures
+    c .tile-refusal .ensures .0
     ∙ ap (λ b. firstNo (record { number = 1; answer = b } ∷ question2 (p .side) (s .args .table .now) ∷ [])) (sheet-tile-side (p .sheet) (p .side) (yes14 (c .before .before .before)))
     ∙ sym (after-2 (c .before) .same)
 

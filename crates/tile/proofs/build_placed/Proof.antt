@@ -69,7 +69,7 @@ module _ (s : tie.Start) where
 returns : tie.Need-returns
 returns c =
     let s = c .before .before .before .before in
-    let e = c .before .tile-refusal .ensures in
+    let e = c .before .tile-refusal .ensures .0 in
     let n = e ∙ first-refused (first s) (rest s) (λ z. c .if1 .taken (e ∙ z)) ∙ asked-is s in
     let no : number s ≢ 0 = λ z. c .if1 .taken (n ∙ z) in
     (ap₂ answer n (sym (if-refused _ 0 no)), (kept s no, (is-faithful s (kept s no), (refl, refl))))
@@ -81,8 +81,8 @@ module _ (c : tie.After-outline-refusal) where
 
   asked : c .outline-refusal .result ≡ number start
   asked =
-      c .outline-refusal .ensures
-      ∙ sym (first-passed (first start) (rest start) (firstNo-zero (first start) tt .0 (sym (c .before .before .tile-refusal .ensures) ∙ c .before .if1 .left)))
+      c .outline-refusal .ensures .0
+      ∙ sym (first-passed (first start) (rest start) (firstNo-zero (first start) tt .0 (sym (c .before .before .tile-refusal .ensures .0) ∙ c .before .if1 .left)))
       ∙ asked-is start
 
 returns-2 : tie.Need-returns-2
@@ -138,7 +138,7 @@ module _ (c : tie.After-edges-of) where
   accepted-at = cleared .before .before
 
   counted : c .edges-of .result ≡ edgeCount (entry accepted-at .args .counts .now)
-  counted = c .edges-of .ensures ∙ capped-within (entry accepted-at .args .counts .now) (is-accepted accepted-at .few-edges)
+  counted = c .edges-of .ensures .0 ∙ capped-within (entry accepted-at .args .counts .now) (is-accepted accepted-at .few-edges)
 
   left-there : added-all .add-outline .last .0 ≡ outcome (entry accepted-at)
   left-there =

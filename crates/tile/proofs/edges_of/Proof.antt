@@ -1,5 +1,5 @@
 -- One count after the other, as long as the sum is at most the most edges.
-use mathlib.Core.Path.{_≡_, sym, _∙_}
+use mathlib.Core.Path.{_≡_, refl, sym, _∙_}
 use mathlib.Core.List.{List}
 use Prim.Native.Nat.{ℕ, _+_, _-_, _≤_}
 use native.Mathlib.Omega.{arith}
@@ -47,7 +47,7 @@ module _ (i : tie.In-loop Inv-loop μ-loop) where
   sum-is = omega (arith, i .before .loop .inv .2, count-next counts at (i .loop-test .taken))
 
 returns : tie.Need-returns Inv-loop μ-loop
-returns c = sym (capped-over (counts (c .before .before)) (omega (arith, sum-is (c .before .before), c .if1 .taken)))
+returns c = (sym (capped-over (counts (c .before .before)) (omega (arith, sum-is (c .before .before), c .if1 .taken))), refl)
 
 add-i : tie.Need-add-i Inv-loop μ-loop
 add-i c = search needs
@@ -63,7 +63,7 @@ returns-2 c =
     let l = c .before .loop in
     let all = c .before .before .args .counts .now in
     let e : l .sum ≡ edgeCount all = omega (arith, l .inv .2, count-end all (l .i) (c .loop-test .left)) in
-    e ∙ sym (capped-within all (omega (arith, l .inv .1)))
+    (e ∙ sym (capped-within all (omega (arith, l .inv .1))), refl)
 
 pub edges-of-spec : {M : Type 1} → statement M
 edges-of-spec =

@@ -17,13 +17,13 @@ rest s = question7 (s .args .side) (s .args .level) ∷ []
 returns : tie.Need-returns
 returns c =
     let s = c .before .before in
-    let e = c .before .tile-refusal .ensures in
+    let e = c .before .tile-refusal .ensures .0 in
     e ∙ first-refused (first s) (rest s) (λ z. c .if1 .taken (e ∙ z))
 
 after-2 : (c : tie.Else1) → After (first (c .before .before) ++ rest (c .before .before)) 2
 after-2 c =
     let s = c .before .before in
-    record { same = first-passed (first s) (rest s) (firstNo-zero (first s) tt .0 (sym (c .before .tile-refusal .ensures) ∙ c .if1 .left)) }
+    record { same = first-passed (first s) (rest s) (firstNo-zero (first s) tt .0 (sym (c .before .tile-refusal .ensures .0) ∙ c .if1 .left)) }
 
 returns-2 : tie.Need-returns-2
 returns-2 c = refused (after-2 (c .before .before)) (c .before .is-level .ensures) (c .if2 .taken)
