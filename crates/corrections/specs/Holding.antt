@@ -1,8 +1,9 @@
 -- The tile that holds given contours, and what a call makes of it (02, P3).
 --
 -- A tile holds contours where it is what building them leaves, in any order and whatever the table held before building, with the count that building
--- reports; and what is drawn of it is as near to their ink as demand 3 has it of one drawn afresh. `put` and `take` have in their contracts that they go
--- from such a tile to such a tile.
+-- reports; and what is drawn of it is as near to their ink as demand 3 has it of one drawn afresh. `put` and `take`, and the same on a
+-- sheet, have in their contracts that they go from such a tile to such a tile. On a sheet the exact areas are of the edges as seen from the tile's corner:
+-- that these are the cells' at their place is `from-tile-area` of `accuracy`.
 --
 -- This is said of the tile and not of how it came about: a triangle and the same one walked the other way leave a table of zeros and six edges, and so
 -- does any other such pair. Which contours were put in is said by a series of calls (`Series`).

@@ -1,5 +1,5 @@
--- "Putting in adds a contour's rounded values to the table; taking out is its inverse." Of any tile, whatever it holds, alone or on a sheet: where the one is not refused, the
--- other, with the same points and placement, is not refused then, and leaves table and record as they were before both.
+-- "Putting in adds a contour's rounded values to the table; taking out is its inverse." Of any tile, whatever it holds, alone or on a sheet: where the one is not
+-- refused, the other, at the same site and with the same points and placement, is not refused then, and leaves table and record as they were before both.
 --
 -- Main results
 --   put-then-take                taking out what was put in

@@ -1,5 +1,5 @@
 -- What a tile that holds contours, alone or on a sheet, does not refuse: taking out one that it holds, and putting in what passes the questions about a contour,
--- as long as there are not too many edges; and no call at its site is answered 9. So there are series of corrections, and two examples are such.
+-- as long as there are not too many edges; and no call is answered 9. So there are series of corrections, and two examples are such.
 --
 -- Main results
 --   never-9                      no call on a tile that holds contours is answered 9
@@ -183,7 +183,7 @@ example =
       (tt, (tt, (tt, (tt, (tt, tt))))),
     )
 
--- ---- and on a sheet of 4 pixels, in its upper right tile of 2: the same square in the middle of the sheet, a quarter of which lies on the tile
+-- ---- and on a sheet of 4 pixels, in its upper right tile of 2: a square of 2 pixels in the middle of the sheet, a quarter of which lies on the tile
 abbrev corner : SheetTile
 corner = record { sheet = 4; side = 2; column = 1; row = 0 }
 

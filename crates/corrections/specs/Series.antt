@@ -45,7 +45,7 @@ pub data Lawful {K C : Type 0} (calls : Calls K C) : Tile → List C → List K 
   taken : {t : Tile} {cs : List C} {k : K} {ks : List K} {others rest : List C} → calls .number k t ≡ 0 → calls .change k ≡ Take
       → Perm cs (calls .contour k ∷ others) → Lawful calls (calls .after k t) others ks rest → Lawful calls t cs (k ∷ ks) rest
 
--- ---- `put` and `take`, as their contracts have them
+-- ---- the four calls, as their contracts have them
 abbrev pub corrections : Calls Call Contour
 corrections = record { change = λ k. k .change; contour = contourOf; number = correctRefusal; after = corrected }
 
@@ -53,7 +53,8 @@ abbrev pub IsAlone : Site → Type 0
 IsAlone (Alone side) = Unit {0}
 IsAlone (OnSheet place) = ⊥
 
--- "A tile being corrected keeps one sheet side and one place through the whole of P3's series." For a tile alone any side may be given: another than the tile's
+-- "A tile being corrected keeps one sheet side and one place through the whole of P3's series." A call at another place is no part of the series, refused or not;
+-- where it is refused, it leaves the tile as it was, and the series goes on without it. For a tile alone any side may be given: another than the tile's
 -- is refused, since the table's length tells.
 abbrev pub OneSite : Site → Call → Type 0
 OneSite (Alone side) k = IsAlone (k .site)

@@ -38,7 +38,8 @@ exactAreaOnSheet place es level cx cy =
     numer steps (λ e. areaNum e (cellOnSheet (depthOf (place .side)) (place .column) (place .row) level (at cx cy))) es
 
 pub record FaithfulOnSheet (place : SheetTile) (points : List ℤ) (counts : List ℕ) (placement : Placement) (before after : List ℤ) : Type 0 where
-  -- "so a figure may miss by 4^L × edges / 2 and a tile's figures add up to 4^L times its own rounded root"
+  -- "so a figure may miss by 4^L × edges / 2 and a tile's figures add up to 4^L times its own rounded root". In square steps that is a quarter for each edge, so
+  -- `close` and `area` say the same here.
   pub faithful : FaithfulTo (place .side) (seenFromTile place (edgesOf (placed placement points) counts))
       (tileRoot (depthOf (place .side)) (seenFromTile place (edgesOf (placed placement points) counts))) twiceTileMissLimit
       (sheetRefusal place points counts placement before) (edgeCount counts) after

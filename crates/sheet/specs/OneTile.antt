@@ -1,5 +1,5 @@
--- A sheet that is one tile is a tile alone: with the sheet's side the tile's, building answers and leaves what building without a sheet does, entry for entry,
--- for every input. (02 has the root rounded for each edge; on the tile each edge's part of its area is whole.)
+-- A sheet that is one tile is a tile alone: with the sheet's side the tile's, one of up to 32, building answers and leaves what building without a sheet does,
+-- entry for entry, whatever is handed over beside the side. (02 has the root rounded for each edge; on the tile each edge's part of its area is whole.)
 --
 -- Main results
 --   one-tile-result, one-tile-table
@@ -23,10 +23,9 @@ use Rattle.tile.specs.Questions.{Question, Yes, depthOf, firstNo, question2, qu
 use Rattle.tile.specs.Outcomes.{ifDone, edgesOf, tableOf, tableWith, placedRefusal, placedResult, placedTable}
 use Rattle.sheet.specs.declared.SheetTile.{SheetTile}
 use Rattle.sheet.specs.SheetQuestions.{question14, question15}
-use Rattle.sheet.specs.SheetOutcomes.{tileEntries, sheetRefusal, sheetResult, sheetTable}
+use Rattle.sheet.specs.SheetOutcomes.{tileAt, tileEntries, sheetRefusal, sheetResult, sheetTable}
 use Rattle.sheet.specs.SheetRefusals.{question15-means}
 use Rattle.sheet.specs.SheetTheorem.{sheet-accepted}
-use Rattle.sheet.specs.TilesAddUp.{tileAt}
 use Rattle.sheet.specs.Laws.Places.{sheet-tile-side, sheet-tile-wide}
 
 -- ---- from the origin an edge is seen as it is

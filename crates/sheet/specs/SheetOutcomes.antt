@@ -1,6 +1,7 @@
 -- What building on a sheet answers, and what the table holds afterwards, for every input.
 --
 -- Definitions
+--   tileAt sheet side column row the tile at that place
 --   seenFromTile place es        the edges as they are seen from the tile's corner
 --   tileEntries place es         the table of the tile: its entries, in order
 --   sheetRefusal, sheetResult,
@@ -19,6 +20,9 @@ use Rattle.tile.specs.Questions.{depthOf, firstNo}
 use Rattle.tile.specs.Outcomes.{ifDone, edgesOf, tableWith}
 use Rattle.sheet.specs.declared.SheetTile.{SheetTile}
 use Rattle.sheet.specs.SheetQuestions.{sheetQuestions}
+
+abbrev pub tileAt : ℕ → ℕ → ℕ → ℕ → SheetTile
+tileAt sheet side column row = record { sheet = sheet; side = side; column = column; row = row }
 
 abbrev pub seenFromTile : SheetTile → List Edge → List Edge
 seenFromTile place es = fromTile (depthOf (place .side)) (place .column) (place .row) es

@@ -1,7 +1,6 @@
 -- "For outlines of level, upright and 45 degree edges the tiles' roots add up to the outline's area": over all tiles of the sheet.
 --
 -- Definitions
---   tileAt sheet side column row the tile at that place
 --   builtRoot                    the root that building a tile leaves: entry 0
 -- Main results
 --   accepted-everywhere          an outline that is accepted at one place of a sheet is accepted at every other, over a table as long
@@ -37,13 +36,10 @@ use Rattle.tile.specs.Laws.Sides.{side-power}
 use Rattle.tile.specs.Laws.Accepted.{side-width}
 use Rattle.sheet.specs.declared.Site.the-variants.{OnSheet}
 use Rattle.sheet.specs.SheetQuestions.{question14, question15}
-use Rattle.sheet.specs.SheetOutcomes.{seenFromTile, tileEntries, sheetRefusal, sheetTable}
+use Rattle.sheet.specs.SheetOutcomes.{tileAt, seenFromTile, tileEntries, sheetRefusal, sheetTable}
 use Rattle.sheet.specs.SheetRefusals.{sheet-refusals, question15-means}
 use Rattle.sheet.specs.SheetTheorem.{sheet-accepted}
 use Rattle.sheet.specs.Laws.Places.{sheet-power, sheet-tile-side, sheet-covers}
-
-abbrev pub tileAt : ℕ → ℕ → ℕ → ℕ → SheetTile
-tileAt sheet side column row = record { sheet = sheet; side = side; column = column; row = row }
 
 abbrev pub builtRoot : SheetTile → List ℤ → List ℕ → Placement → List ℤ → ℤ
 builtRoot place points counts placement before = getD (sheetTable place points counts placement before) 0 (pos 0)
