@@ -1,10 +1,10 @@
--- An edge walked the other way has the opposite integrals, the opposite rounded details and the opposite root term.
+-- An edge walked the other way has the opposite integrals, the opposite rounded details, the opposite rounded area and the opposite root term.
 --
 -- Main results
 --   reverse, opposite                                        the edge with its end points exchanged; details of the opposite sign
 --   steps-reverse                                            the walk back is as long
 --   area-reverse, h-reverse, v-reverse, d-reverse            each numerator is opposite
---   details-reverse, root-reverse                            and so are the rounded details, and the root term
+--   details-reverse, roundedArea-reverse, root-reverse       and so are the rounded details, the rounded area, and the root term
 use mathlib.Core.Path.{_≡_, _∙_, ap, ap₂}
 use mathlib.Core.List.{[], _∷_}
 use Prim.Native.Nat.{ℕ, zero, suc, _+_, _*_}
@@ -26,7 +26,7 @@ use Rattle.edge.specs.Lemmas.Records.{details-eq}
 use Rattle.edge.specs.Laws.StepCount.{steps-pos}
 use Rattle.edge.specs.Lemmas.Ends.{extent-neg, sign-neg, x-end, y-end}
 use Rattle.edge.specs.Integrals.{along, areaNum, hNum, vNum, dNum}
-use Rattle.edge.specs.Rounded.{details, rootTerm}
+use Rattle.edge.specs.Rounded.{details, rootTerm, roundedArea}
 
 abbrev pub reverse : Edge → Edge
 reverse e = record { x0 = e .x1; y0 = e .y1; x1 = e .x0; y1 = e .y0 }
@@ -147,6 +147,10 @@ module _ (e : Edge) (c : Cell) where
   pub details-reverse : details (reverse e) c ≡ opposite (details e c)
   unfolding details
   details-reverse = details-eq (round-back hNum h-reverse) (round-back vNum v-reverse) (round-back dNum d-reverse)
+
+  pub roundedArea-reverse : roundedArea (reverse e) c ≡ negℤ (roundedArea e c)
+  unfolding roundedArea
+  roundedArea-reverse = round-back areaNum area-reverse
 
 pub root-reverse : (e : Edge) → rootTerm (reverse e) ≡ negℤ (rootTerm e)
 unfolding rootTerm
