@@ -19,6 +19,8 @@ pub mod SheetEntries
 pub mod TilesAddUp
 -- a sheet that is one tile is a tile alone
 pub mod OneTile
+-- traced the other way round, every tile has the opposite table and the same greys (P4)
+pub mod EitherWayOnSheet
 -- ---- a tile alone or on a sheet, as the calls of `corrections` have it
 pub mod Sites
 -- ---- how it is proved

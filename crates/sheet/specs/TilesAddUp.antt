@@ -87,7 +87,7 @@ module _ (sheet side : ℕ) (points : List ℤ) (counts : List ℕ) (placement :
         ∙ tiles-add-up (depthOf sheet) m (depthOf side) covers (a .on-sheet .closed) (a .on-sheet .on-tile) octilinear
 
 -- ---- an instance: a square from the middle of the first tile of a sheet of 4 pixels to the middle of the last, in tiles of 2
-abbrev square : List ℤ
+abbrev pub square : List ℤ
 square = pos 256 ∷ pos 256 ∷ pos 768 ∷ pos 256 ∷ pos 768 ∷ pos 768 ∷ pos 256 ∷ pos 768 ∷ []
 
 pub square-accepted : sheetRefusal (tileAt 4 2 0 0) square (4 ∷ []) None (replicate 4 (pos 0)) ≡ 0
