@@ -44,9 +44,9 @@ use Rattle.tile.specs.Faithful.{figureNum}
 use Rattle.tile.specs.EitherWay.{opposite, opposite-greys, reversed-edges-exact-grey, either-way-count, either-way-every}
 use Rattle.tile.specs.Laws.IfDone.{if-done}
 use Rattle.sheet.specs.declared.SheetTile.{SheetTile}
-use Rattle.sheet.specs.SheetOutcomes.{seenFromTile, tileEntries, sheetRefusal, sheetTable}
+use Rattle.sheet.specs.SheetOutcomes.{tileAt, seenFromTile, tileEntries, sheetRefusal, sheetTable}
 use Rattle.sheet.specs.SheetRefusals.{sheet-refusals}
-use Rattle.sheet.specs.TilesAddUp.{tileAt, square, square-accepted}
+use Rattle.sheet.specs.TilesAddUp.{square, square-accepted}
 
 -- ---- edges, each walked backwards
 module _ (place : SheetTile) (es : List Edge) {fs : List Edge} (back : EdgesReversed es fs) where
