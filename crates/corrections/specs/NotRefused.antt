@@ -11,7 +11,7 @@
 use mathlib.Core.Path.{_≡_, refl, sym, _∙_, ap, ap₂, subst, subst⁻¹}
 use mathlib.Core.Bool.{true, false, _&&_, true≢false}
 use mathlib.Core.Logic.{_≢_}
-use mathlib.Core.List.{List, [], _∷_, _++_, Perm, Perm·swap}
+use mathlib.Core.List.{List, [], _∷_, _++_, Perm, Perm·refl, Perm·swap}
 use Prim.Native.Nat.{ℕ, _+_}
 use native.Mathlib.Omega.{arith}
 use borrow.Author.Tests.{le-leb}
@@ -39,7 +39,7 @@ use Rattle.sheet.specs.declared.Site.{Site}
 use Rattle.sheet.specs.declared.Site.the-variants.{Alone, OnSheet}
 use Rattle.sheet.specs.Sites.{tileSide, reach, SiteYes}
 use Rattle.corrections.specs.declared.Change.the-variants.{Put, Take}
-use Rattle.corrections.specs.Corrections.{Tile, Call, callOf, putting, taking, puttingOn, contourOf, question13, question9Twice, takenOut, wouldLeave, contourQuestions, correctRefusal, corrected}
+use Rattle.corrections.specs.Corrections.{Tile, Call, callOf, putting, taking, puttingOn, takingOn, contourOf, question13, question9Twice, takenOut, wouldLeave, contourQuestions, correctRefusal, corrected}
 use Rattle.corrections.specs.CorrectingRefusals.{decided9}
 use Rattle.corrections.specs.Holding.{emptyTile, HoldsContours}
 use Rattle.corrections.specs.Series.{none, refused, put, taken, Series}
@@ -190,7 +190,22 @@ corner = record { sheet = 4; side = 2; column = 1; row = 0 }
 abbrev crossing : Call
 crossing = puttingOn corner (pos 256 ∷ pos 256 ∷ pos 768 ∷ pos 256 ∷ pos 768 ∷ pos 768 ∷ pos 256 ∷ pos 768 ∷ []) 4 None
 
-pub example-on-sheet : Series (OnSheet corner) (emptyTile 2) [] (crossing ∷ []) (contourOf crossing ∷ [])
+abbrev back-out : Call
+back-out = takingOn corner (crossing .points) 4 None
+
+too-early-on-sheet : correctRefusal back-out (emptyTile 2) ≡ 13
+unfolding placed tally
+too-early-on-sheet = refl
+
+-- it cannot be taken out before it is put in, and can be then
+pub example-on-sheet : Series (OnSheet corner) (emptyTile 2) [] (back-out ∷ crossing ∷ back-out ∷ []) []
 unfolding placed tally
 example-on-sheet =
-    (put (put-accepted (holds-empty (OnSheet corner) (refl, refl)) (crossing .points) 4 None refl refl refl refl refl) refl none, (refl, tt))
+    let empty : HoldsContours (OnSheet corner) [] (emptyTile 2) = holds-empty (OnSheet corner) (refl, refl) in
+    let in-it = put-accepted empty (crossing .points) 4 None refl refl refl refl refl in
+    let p : Perm (contourOf crossing ∷ []) (contourOf back-out ∷ []) = Perm·refl (contourOf crossing ∷ []) in
+    let out = take-accepted (holds-put crossing (emptyTile 2) in-it refl empty) (crossing .points) 4 None p refl refl in (
+      refused (λ (z : correctRefusal back-out (emptyTile 2) ≡ 0). absurd (omega (arith, sym too-early-on-sheet ∙ z)))
+          (put in-it refl (taken out refl p none)),
+      (refl, (refl, (refl, tt))),
+    )

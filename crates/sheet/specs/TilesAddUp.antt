@@ -7,24 +7,25 @@
 --   roots-add-up                 the sum over all tiles, whatever the tables held before
 -- Instance
 --   square-accepted              a square over four tiles of a sheet, as it is asked for
+--   square-roots                 and its four roots add up to its area
 use mathlib.Core.Path.{_≡_, refl, _∙_, ap, ap₂}
 use mathlib.Core.List.{List, [], _∷_}
 use Prim.Native.Nat.{ℕ, _*_, _/_, _<_}
 use native.Mathlib.Omega.{arith}
-use lib.Dec.{eqb}
+use lib.Dec.{eqb, lit<}
 use lib.ListN.{length, getD, replicate}
 use lib.IntN.{ℤ, pos}
 use Rattle.integers.specs.Units.{stepsPerPixel}
 use Rattle.integers.specs.ListSum.{All, tally}
 use Rattle.integers.specs.RangeSum.{Σ<, Σ-cong}
 use Rattle.edge.specs.declared.Edge.{Edge}
-use Rattle.edge.specs.Octilinear.{Octilinear}
+use Rattle.edge.specs.Octilinear.{Octilinear, level, upright}
 use Rattle.haar.specs.Plane.{dimensions}
 use Rattle.haar.specs.Laws.Entries.{entries-root}
 use Rattle.placement.specs.declared.Placement.{Placement}
 use Rattle.placement.specs.declared.Placement.the-variants.{None}
 use Rattle.placement.specs.Placed.{placed}
-use Rattle.accuracy.specs.Outline.{signedArea}
+use Rattle.accuracy.specs.Outline.{signedArea, contoursOf, pointsOf, through, contourEdges, outlineEdges}
 use Rattle.accuracy.specs.Tile.{cellWidth}
 use Rattle.accuracy.specs.OutlineTable.{tileRoot, tileTable}
 use Rattle.accuracy.specs.Laws.SheetTiles.{tiles-add-up}
@@ -93,3 +94,14 @@ square = pos 256 ∷ pos 256 ∷ pos 768 ∷ pos 256 ∷ pos 768 ∷ pos 768 ∷
 pub square-accepted : sheetRefusal (tileAt 4 2 0 0) square (4 ∷ []) None (replicate 4 (pos 0)) ≡ 0
 unfolding placed tally
 square-accepted = refl
+
+square-octilinear : All Octilinear (edgesOf (placed None square) (4 ∷ []))
+unfolding placed contoursOf pointsOf through contourEdges outlineEdges
+square-octilinear = (level refl, (upright refl, (level refl, (upright refl, tt))))
+
+pub square-roots :
+    Σ< 2 (λ row. Σ< 2 (λ column. builtRoot (tileAt 4 2 column row) square (4 ∷ []) None (replicate 4 (pos 0)))) ≡ signedArea (edgesOf (placed None square) (4 ∷ []))
+square-roots =
+    let before = replicate 4 (pos 0) in
+    roots-add-up 4 2 square (4 ∷ []) None (λ column row. before)
+    (λ column row x y. accepted-everywhere 4 2 square (4 ∷ []) None 0 0 column row before before square-accepted x y refl) (lit< tt) square-octilinear
