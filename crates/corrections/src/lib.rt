@@ -133,7 +133,7 @@ pub fn put(
 {
     correct(
         Site::Alone(side),
-        Change::Put,
+        Change::Put, // into a tile alone
         points,
         count,
         placement,
@@ -160,7 +160,7 @@ pub fn take(
 {
     correct(
         Site::Alone(side),
-        Change::Take,
+        Change::Take, // out of a tile alone
         points,
         count,
         placement,
@@ -189,7 +189,7 @@ pub fn put_on_sheet(
 {
     correct(
         Site::OnSheet(place),
-        Change::Put,
+        Change::Put, // into a tile of a sheet
         points,
         count,
         placement,
@@ -215,7 +215,7 @@ pub fn take_on_sheet(
 {
     correct(
         Site::OnSheet(place),
-        Change::Take,
+        Change::Take, // out of a tile of a sheet
         points,
         count,
         placement,
