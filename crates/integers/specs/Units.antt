@@ -147,3 +147,14 @@ placedLimit = 2 * (factorLimit * movableLimit) + offsetLimit
 
 placed-limit-is : placedLimit ≡ 147456
 placed-limit-is = refl
+
+-- ---- curves (02, P6): "k is the least from 0 to 7". A curve on the greatest sheet bends by at most twice the sheet's width, which is 4 × 4^7 steps, and 2^7 chords
+-- follow that to one step.
+abbrev pub mostSplits : ℕ
+mostSplits = 7
+
+abbrev pub mostChords : ℕ
+mostChords = 2 ^ mostSplits
+
+most-splits-is : 2 * greatestSheetCoordinate ≡ 4 * 4 ^ mostSplits
+most-splits-is = refl
