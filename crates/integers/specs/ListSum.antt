@@ -12,12 +12,15 @@
 --   tally, tally-total, tally-const,
 --   tally-perm                        a count over a list: a sum of natural numbers
 --   length-perm                       in another order a list is as long
+--   joined f l                        the lists that f makes of l's elements, one after the other
+--   total-joined, all-joined,
+--   length-joined                     a sum over it, a property of all its elements, its length
 use mathlib.Core.Path.{_≡_, refl, sym, _∙_, ap, ap₂}
 use mathlib.Core.List.{List, [], _∷_, _++_, map, Perm, List·Permᴰ, List·Permᴰ·nil, List·Permᴰ·cons, List·Permᴰ·swap, List·Permᴰ·trans}
 use mathlib.Core.Logic.{∥∥₁-elim}
 use Prim.Native.Nat.{ℕ, zero, suc, _+_, _*_, _<_}
 use native.Mathlib.Omega.{arith}
-use lib.ListN.{length, getD, take, drop}
+use lib.ListN.{length, getD, take, drop, length-append}
 use lib.IntN.{ℤ, pos, natAbs, negℤ, _+ℤ_, _*ℤ_, ℤ-set}
 use lib.Signed.{≤ℤ-refl}
 use Rattle.integers.specs.Ring.{read, ring, comb, _⊕_}
@@ -175,3 +178,24 @@ tally-perm f {k} {l} p = ap natAbs (tally-total f k ∙ total-perm (λ a. pos (f
 
 pub length-perm : {A : Type 0} {k l : List A} → Perm k l → length k ≡ length l
 length-perm {A} {k} {l} p = omega (arith, tally-const 1 k, tally-const 1 l, tally-perm (λ (a : A). 1) p)
+
+-- ---- the lists that are made of a list's elements, one after the other
+unfoldable pub joined : {A B : Type 0} → (A → List B) → List A → List B
+joined f [] = []
+joined f (a ∷ l) = f a ++ joined f l
+
+module _ {A B : Type 0} (f : A → List B) where
+  pub total-joined : (g : B → ℤ) (l : List A) → total g (joined f l) ≡ total (λ a. total g (f a)) l
+  unfolding total joined
+  total-joined g [] = refl
+  total-joined g (a ∷ l) = total-append g (f a) (joined f l) ∙ ap (λ z. total g (f a) +ℤ z) (total-joined g l)
+
+  pub all-joined : (P : B → Type 0) (l : List A) → All (λ a. All P (f a)) l → All P (joined f l)
+  unfolding joined
+  all-joined P [] h = tt
+  all-joined P (a ∷ l) h = all-append P (f a) (joined f l) (h .0) (all-joined P l (h .1))
+
+  pub length-joined : (l : List A) → length (joined f l) ≡ tally (λ a. length (f a)) l
+  unfolding joined tally
+  length-joined [] = refl
+  length-joined (a ∷ l) = length-append (f a) (joined f l) ∙ ap (λ n. length (f a) + n) (length-joined l)

@@ -204,7 +204,7 @@ pub fn add_edge(table: &mut [i64], e: Edge, view: View, sign: i64, depth: usize)
 }
 
 // The edge from point k of a contour's n points, as placed, to the next one; from the last, to the first.
-fn edge_from(points: &[i64], placement: Placement, n: usize, k: usize) -> Edge
+pub fn edge_from(points: &[i64], placement: Placement, n: usize, k: usize) -> Edge
     requires { ⌜ (k < n) × (2 * n ≤ length (now points)) × (placeable placement (now points) ≡ true) ⌝ }
     ensures { λ r. ⌜ r ≡ edgeOf (placed placement (now (points .entry))) n k ⌝ }
 {

@@ -28,13 +28,20 @@
 //! A letter that is wider than a tile lies on a sheet of up to 128 pixels a side, and is drawn tile by tile: [`build_on_sheet`],
 //! [`put_on_sheet`] and [`take_on_sheet`] are given a [`SheetTile`], which says what tile of what sheet it is.
 //!
+//! An edge may be curved, a quadratic Bézier curve: [`build_curves`], [`put_curves`] and [`take_curves`] take a mark for each edge, and draw chords
+//! in place of a curve, none of which leaves it by more than a step. They are given a [`Site`], a tile alone or one of a sheet.
+//!
 //! Every input is answered: the work is done, or the call is refused, and a [`Refusal`] says why.
 #![warn(missing_docs)]
 
+mod curves;
 mod refusal;
 mod sheet;
 mod tile;
 
+pub use curves::{build_curves, put_curves, take_curves, Site};
+#[doc(hidden)]
+pub use curves::{build_curves_by_numbers, put_curves_by_numbers, take_curves_by_numbers};
 pub use refusal::Refusal;
 pub use sheet::{build_on_sheet, put_on_sheet, take_on_sheet, SheetTile};
 #[doc(hidden)]
@@ -126,6 +133,95 @@ mod c {
             points: *const i64,
             points_length: usize,
             count: u32,
+            placement: *const f64,
+            placement_length: usize,
+            edges: *mut u32,
+            table: *mut i64,
+            table_length: usize,
+        ) -> u32;
+        pub fn mattuliyan_build_curves(
+            side: u32,
+            points: *const i64,
+            points_length: usize,
+            counts: *const u32,
+            counts_length: usize,
+            marks: *const u8,
+            marks_length: usize,
+            placement: *const f64,
+            placement_length: usize,
+            table: *mut i64,
+            table_length: usize,
+            edges: *mut u32,
+        ) -> u32;
+        pub fn mattuliyan_put_curves(
+            side: u32,
+            points: *const i64,
+            points_length: usize,
+            count: u32,
+            marks: *const u8,
+            marks_length: usize,
+            placement: *const f64,
+            placement_length: usize,
+            edges: *mut u32,
+            table: *mut i64,
+            table_length: usize,
+        ) -> u32;
+        pub fn mattuliyan_take_curves(
+            side: u32,
+            points: *const i64,
+            points_length: usize,
+            count: u32,
+            marks: *const u8,
+            marks_length: usize,
+            placement: *const f64,
+            placement_length: usize,
+            edges: *mut u32,
+            table: *mut i64,
+            table_length: usize,
+        ) -> u32;
+        pub fn mattuliyan_build_curves_on_sheet(
+            sheet: u32,
+            side: u32,
+            column: u32,
+            row: u32,
+            points: *const i64,
+            points_length: usize,
+            counts: *const u32,
+            counts_length: usize,
+            marks: *const u8,
+            marks_length: usize,
+            placement: *const f64,
+            placement_length: usize,
+            table: *mut i64,
+            table_length: usize,
+            edges: *mut u32,
+        ) -> u32;
+        pub fn mattuliyan_put_curves_on_sheet(
+            sheet: u32,
+            side: u32,
+            column: u32,
+            row: u32,
+            points: *const i64,
+            points_length: usize,
+            count: u32,
+            marks: *const u8,
+            marks_length: usize,
+            placement: *const f64,
+            placement_length: usize,
+            edges: *mut u32,
+            table: *mut i64,
+            table_length: usize,
+        ) -> u32;
+        pub fn mattuliyan_take_curves_on_sheet(
+            sheet: u32,
+            side: u32,
+            column: u32,
+            row: u32,
+            points: *const i64,
+            points_length: usize,
+            count: u32,
+            marks: *const u8,
+            marks_length: usize,
             placement: *const f64,
             placement_length: usize,
             edges: *mut u32,

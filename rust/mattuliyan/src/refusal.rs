@@ -19,6 +19,10 @@ macro_rules! questions {
         /// On a sheet, 14 and 15 come in the place of 1: [`build_on_sheet`](crate::build_on_sheet) asks 14, 15, 2, 4, 5, 3, 12, 6;
         /// [`put_on_sheet`](crate::put_on_sheet) 14, 15, 2, 4, 5, 3, 12, 6, 9; [`take_on_sheet`](crate::take_on_sheet) 14, 15, 2, 4, 5, 3,
         /// 12, 6, 13, 9. There the side is the tile's in question 2, and the sheet's in question 6.
+        /// Of curves, 16 comes after 4, and 5, which counts chords, after 6: [`build_curves`](crate::build_curves) asks 1, 2, 4, 16, 3, 12, 6,
+        /// 5; [`put_curves`](crate::put_curves) 1, 2, 4, 16, 3, 12, 6, 5, 9; [`take_curves`](crate::take_curves) 1, 2, 4, 16, 3, 12, 6, 5,
+        /// 13, 9; and on a sheet 14 and 15 come in the place of 1. There question 3 wants two numbers for a straight edge and four for a curved
+        /// one, 6 asks about control points too, and 13 about chords.
         #[derive(Clone, Copy, Debug, PartialEq, Eq)]
         pub struct Refusal {
             number: u8,
@@ -30,9 +34,9 @@ macro_rules! questions {
 questions! {
     1 "Is the side 1, 2, 4, 8, 16, 32 or 64?"
     2 "Has the table exactly side × side entries?"
-    3 "Are the points exactly twice as many numbers as the counts' sum?"
+    3 "Are the points exactly twice as many numbers as the counts' sum (with marks, two for a straight edge and four for a curved one)?"
     4 "Is every count from 3 to 1,024?"
-    5 "Is the counts' sum (for putting in, with the record's count) at most 1,024?"
+    5 "Is the counts' sum (with marks, the number of chords; for putting in, with the record's count) at most 1,024?"
     6 "Is every coordinate, as placed, from 0 to 256 × side (on a sheet, the sheet's)?"
     7 "Is the level at most the depth, the number of halvings from the side to 1?"
     8 "Has the picture exactly 4^level places?"
@@ -43,6 +47,7 @@ questions! {
     13 "Does the record count at least as many edges as are taken out?"
     14 "Is the sheet's side 1, 2, 4, 8, 16, 32, 64 or 128, and the tile's 1, 2, 4, 8, 16 or 32 and not larger than the sheet's?"
     15 "Is the tile's place on the sheet, column and row being below the sheet's side / the tile's?"
+    16 "Is every mark 0 or 1, and are there exactly as many marks as the counts' sum?"
 }
 
 impl Refusal {
@@ -73,7 +78,7 @@ mod tests {
     #[test]
     fn only_the_listed_numbers_are_refusals() {
         let numbers: Vec<u32> = (0..=300).filter(|&number| Refusal::of(number).is_some()).collect();
-        assert_eq!(numbers, [1, 2, 3, 4, 5, 6, 7, 8, 9, 10, 12, 13, 14, 15]);
+        assert_eq!(numbers, [1, 2, 3, 4, 5, 6, 7, 8, 9, 10, 12, 13, 14, 15, 16]);
         assert!(numbers.iter().all(|&number| u32::from(Refusal::of(number).unwrap().number()) == number));
         assert_eq!(Refusal::of(u32::MAX), None);
     }

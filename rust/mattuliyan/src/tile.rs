@@ -1,5 +1,5 @@
 //! A tile that keeps its table and the record of its edge count together.
-use crate::{Placement, Refusal, SheetTile};
+use crate::{Placement, Refusal, SheetTile, Site};
 
 /// The greatest side of a tile.
 const GREATEST_SIDE: u32 = 64;
@@ -31,10 +31,10 @@ const GREATEST_SIDE: u32 = 64;
 /// # }
 /// ```
 ///
-/// No field is public, so nothing but [`put`](Tile::put) and [`take`](Tile::take) writes to a tile once it is made. So for every tile, after any
-/// series of calls in which each contour that was taken out had been put in, or built, and not yet taken out, table and edge count are those of
-/// building the contours that remain, in any order, and what is drawn is as near to the ink as what is drawn afresh. A call that is refused
-/// changes nothing.
+/// No field is public, so nothing but [`put`](Tile::put) and [`take`](Tile::take), and [`put_curves`](Tile::put_curves) and
+/// [`take_curves`](Tile::take_curves), writes to a tile once it is made. So for every tile, after any series of calls in which each contour that was
+/// taken out had been put in, or built, and not yet taken out, table and edge count are those of building the contours that remain, in any order,
+/// and what is drawn is as near to the ink as what is drawn afresh. A call that is refused changes nothing.
 ///
 /// What cannot be told is whether a contour is in, for a tile does not keep its contours. One that is not in is taken out like any other, if it has
 /// no more edges than are in; after that, table and edge count need not be those of any outline, until that contour is put in.
@@ -102,6 +102,44 @@ impl Tile {
         Ok(Tile { side: place.side, place: Some(place), edges, table })
     }
 
+    /// The tile of an outline that may have curved edges, as placed, alone or of a sheet: points, counts and marks are as for the call
+    /// [`build_curves`](crate::build_curves).
+    ///
+    /// ```
+    /// # fn main() -> Result<(), Box<dyn std::error::Error>> {
+    /// use mattuliyan::{Placement, Site, Tile};
+    ///
+    /// // a round letter on a tile of 2 pixels and a speck in it, which is straight
+    /// let round = [256, 0, 512, 0, 512, 256, 512, 512, 256, 512, 0, 512, 0, 256, 0, 0];
+    /// let speck = [200, 200, 230, 200, 230, 230];
+    /// let points = [&round[..], &speck].concat();
+    /// let mut tile = Tile::build_curves(Site::Alone(2), &points, &[4, 3], &[1, 1, 1, 1, 0, 0, 0], Placement::None)?;
+    /// assert_eq!(tile.edges(), 32 + 3);
+    ///
+    /// // straight contours and curved ones are corrected in one tile
+    /// tile.take(&speck, Placement::None)?;
+    /// assert_eq!(tile.greys(1)?, [211; 4]);
+    /// tile.take_curves(&round, &[1; 4], Placement::None)?;
+    /// assert_eq!(tile, Tile::new(2)?);
+    /// # Ok(())
+    /// # }
+    /// ```
+    pub fn build_curves(
+        site: Site,
+        points: &[i64],
+        counts: &[u32],
+        marks: &[u8],
+        placement: Placement,
+    ) -> Result<Tile, Refusal> {
+        let (side, place) = match site {
+            Site::Alone(side) => (side, None),
+            Site::OnSheet(place) => (place.side, Some(place)),
+        };
+        let mut table = table(side);
+        let edges = crate::build_curves(site, points, counts, marks, placement, &mut table)?;
+        Ok(Tile { side, place, edges, table })
+    }
+
     /// Puts a contour in: its points as placed, `points` having x and y of each in turn, in steps.
     ///
     /// It has a point for every two numbers, from 3 to 1,024 points (else 4), and the edges that are in and its own are at most 1,024 (else 5).
@@ -123,6 +161,29 @@ impl Tile {
             None => crate::take(self.side, points, count, placement, edges, table),
             Some(place) => crate::take_on_sheet(place, points, count, placement, edges, table),
         }
+    }
+
+    /// Puts a contour in that may have curved edges: `marks` has 0 for each straight edge and 1 for each curved one, and `points` has x and y of its
+    /// start and, where it is curved, of its control point right after.
+    ///
+    /// It has an edge for every mark, from 3 to 1,024 edges (else 4). A mark is 0 or 1 (else 16), the points are as many as the marks say (else 3), and
+    /// the edges that are in and the contour's chords are at most 1,024 (else 5).
+    pub fn put_curves(&mut self, points: &[i64], marks: &[u8], placement: Placement) -> Result<(), Refusal> {
+        let (site, count) = (self.site(), edges_marked(marks.len()));
+        crate::put_curves(site, points, count, marks, placement, &mut self.edges, &mut self.table)
+    }
+
+    /// Takes a contour out again, as [`put_curves`](Tile::put_curves) put it in. It is known by its chords, in their order, so it may be taken out under
+    /// another placement that leads to the same points, or by [`take`](Tile::take) as the contour of its chords' ends. More chords than are in are
+    /// refused (13), and more than 1,024 (5); a contour that is not in is not.
+    pub fn take_curves(&mut self, points: &[i64], marks: &[u8], placement: Placement) -> Result<(), Refusal> {
+        let (site, count) = (self.site(), edges_marked(marks.len()));
+        crate::take_curves(site, points, count, marks, placement, &mut self.edges, &mut self.table)
+    }
+
+    /// What the tile is: one alone or one of a sheet.
+    fn site(&self) -> Site {
+        self.place.map_or(Site::Alone(self.side), Site::OnSheet)
     }
 
     /// Pixels a side.
@@ -184,6 +245,11 @@ fn count(coordinates: usize) -> u32 {
     u32::try_from(coordinates / 2).unwrap_or(u32::MAX)
 }
 
+/// The count of a contour with so many marks: an edge for each. What 32 bits do not hold stays at their end, likewise.
+fn edges_marked(marks: usize) -> u32 {
+    u32::try_from(marks).unwrap_or(u32::MAX)
+}
+
 #[cfg(test)]
 mod tests {
     use super::*;
@@ -200,5 +266,16 @@ mod tests {
             assert_eq!(count(coordinates), u32::MAX);
         }
         assert_eq!(count((1 << 33) - 1), u32::MAX);
+    }
+
+    #[test]
+    fn counts_of_marks() {
+        for (marks, expected) in [(0, 0), (3, 3), (1025, 1025), ((1 << 32) - 1, u32::MAX)] {
+            assert_eq!(edges_marked(marks), expected);
+        }
+        // cut to 32 bits, these would be 0 and 3
+        for marks in [1 << 32, (1 << 32) + 3, usize::MAX] {
+            assert_eq!(edges_marked(marks), u32::MAX);
+        }
     }
 }

@@ -1,5 +1,5 @@
-/* 01's letter F through the C header, its letter G by a shift, G put in and taken out, both on a sheet, and refusals of each call: prints what
- * is answered and left, one line a call. */
+/* 01's letter F through the C header, its letter G by a shift, G put in and taken out, both on a sheet, a letter with a curve, and refusals of each
+ * call: prints what is answered and left, one line a call. */
 #include "mattuliyan.h"
 
 #include <inttypes.h>
@@ -96,6 +96,64 @@ static void on_sheet(void) {
     print_tile(number, edges, table);
 }
 
+/* A curve from corner to corner of a pixel, of 8 chords, and two straight edges: builds it, puts it in and takes it out, alone and on a sheet. */
+static void with_curves(void) {
+    const int64_t letter[] = {0, 0, 256, 0, 256, 256, 0, 256};
+    const int64_t closing[] = {256, 256, 0, 256, 0, 0, 256, 0}; /* the same, its curve last */
+    const int64_t twice[] = {0, 0, 512, 0, 512, 512, 0, 512};
+    const int64_t farther[] = {512, 0, 768, 0, 768, 256, 512, 256}; /* the same, a tile of 2 to the right */
+    const uint8_t marks[] = {1, 0, 0, 1, 2};
+    const double half[] = {0.5};
+    const uint32_t counts[] = {3};
+    int64_t table[] = {7, 7, 7, 7};
+    uint32_t edges = 7, number;
+
+    /* building: refused for its marks and their number, for its points, and done, also by a scale and with the curve last */
+    number = mattuliyan_build_curves(2, letter, 8, counts, 1, marks + 2, 3, half, 0, table, 4, &edges);
+    print_tile(number, edges, table);
+    number = mattuliyan_build_curves(2, letter, 8, counts, 1, marks, 4, half, 0, table, 4, &edges);
+    print_tile(number, edges, table);
+    number = mattuliyan_build_curves(2, letter, 6, counts, 1, marks, 3, half, 0, table, 4, &edges);
+    print_tile(number, edges, table);
+    number = mattuliyan_build_curves(2, letter, 8, counts, 1, marks, 3, half, 0, table, 4, &edges);
+    print_tile(number, edges, table);
+    number = mattuliyan_build_curves(2, twice, 8, counts, 1, marks, 3, half, 1, table, 4, &edges);
+    print_tile(number, edges, table);
+    number = mattuliyan_build_curves(2, closing, 8, counts, 1, marks + 1, 3, half, 0, table, 4, &edges);
+    print_tile(number, edges, table);
+
+    /* putting in: refused for its chords with those of the record, and done; taking out: done twice, and refused for its chords */
+    edges = 1015;
+    number = mattuliyan_put_curves(2, letter, 8, 3, marks, 3, half, 0, &edges, table, 4);
+    print_tile(number, edges, table);
+    edges = 10;
+    number = mattuliyan_put_curves(2, twice, 8, 3, marks, 3, half, 1, &edges, table, 4);
+    print_tile(number, edges, table);
+    number = mattuliyan_take_curves(2, closing, 8, 3, marks + 1, 3, half, 0, &edges, table, 4);
+    print_tile(number, edges, table);
+    number = mattuliyan_take_curves(2, letter, 8, 3, marks, 3, half, 0, &edges, table, 4);
+    print_tile(number, edges, table);
+    edges = 9;
+    number = mattuliyan_take_curves(2, letter, 8, 3, marks, 3, half, 0, &edges, table, 4);
+    print_tile(number, edges, table);
+
+    /* on a sheet of 4: refused for its place, built in a tile where it is not and in its own, put in once more, taken out, and refused */
+    number = mattuliyan_build_curves_on_sheet(4, 2, 2, 0, farther, 8, counts, 1, marks, 3, half, 0, table, 4, &edges);
+    print_tile(number, edges, table);
+    number = mattuliyan_build_curves_on_sheet(4, 2, 0, 1, farther, 8, counts, 1, marks, 3, half, 0, table, 4, &edges);
+    print_tile(number, edges, table);
+    number = mattuliyan_build_curves_on_sheet(4, 2, 1, 0, farther, 8, counts, 1, marks, 3, half, 0, table, 4, &edges);
+    print_tile(number, edges, table);
+    number = mattuliyan_put_curves_on_sheet(4, 2, 1, 0, farther, 8, 3, marks, 3, half, 0, &edges, table, 4);
+    print_tile(number, edges, table);
+    number = mattuliyan_take_curves_on_sheet(4, 2, 1, 0, farther, 8, 3, marks, 3, half, 0, &edges, table, 4);
+    print_tile(number, edges, table);
+    number = mattuliyan_put_curves_on_sheet(4, 2, 1, 0, farther, 8, 3, marks + 2, 3, half, 0, &edges, table, 4);
+    print_tile(number, edges, table);
+    number = mattuliyan_take_curves_on_sheet(4, 3, 1, 0, farther, 8, 3, marks, 3, half, 0, &edges, table, 4);
+    print_tile(number, edges, table);
+}
+
 int main(void) {
     const int64_t points[] = {0, 0, 384, 1, 0, 1};
     const int64_t off_by_halves[] = {0, 7, 4, 8, 0, 8}; /* as shifted, (255,0) (259,1) (255,1) */
@@ -130,5 +188,6 @@ int main(void) {
     printf("%" PRIu32 " %" PRId64 "\n", number, figure);
     correct();
     on_sheet();
+    with_curves();
     return 0;
 }

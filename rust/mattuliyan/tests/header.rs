@@ -75,7 +75,7 @@ fn declarations_agree() {
     let header = in_one_line(&read("crates/tile_c/include/mattuliyan.h"));
     let wrapper = in_one_line(&read("rust/mattuliyan/src/lib.rs"));
     let exported = between(&source, "#[no_mangle] pub extern \"C\" fn ", " ensures ");
-    assert_eq!(exported.len(), 10);
+    assert_eq!(exported.len(), 16);
 
     let mut in_c = Vec::new();
     let mut in_rust = Vec::new();
@@ -168,14 +168,35 @@ fn answers_in_c() {
         "0 3 4 0 4 0",
         "13 2 4 0 4 0",
     ];
-    let tiles = put.into_iter().chain(taken).chain(on_sheet).map(|line| format!("{line}\n"));
+    // 256 i (i + 1) for each of the 8 chords is 43,008, and 65,536 for the lower edge; all of it is in the tile's first pixel
+    let with_curves = [
+        "16 0 7 7 7 7",
+        "16 0 7 7 7 7",
+        "3 0 7 7 7 7",
+        "0 10 108544 108544 108544 108544",
+        "0 10 108544 108544 108544 108544",
+        "0 10 108544 108544 108544 108544",
+        "5 1015 108544 108544 108544 108544",
+        "0 20 217088 217088 217088 217088",
+        "0 10 108544 108544 108544 108544",
+        "0 0 0 0 0 0",
+        "13 9 0 0 0 0",
+        "15 0 0 0 0 0",
+        "0 10 0 0 0 0",
+        "0 10 108544 108544 108544 108544",
+        "0 20 217088 217088 217088 217088",
+        "0 10 108544 108544 108544 108544",
+        "16 10 108544 108544 108544 108544",
+        "14 10 108544 108544 108544 108544",
+    ];
+    let tiles = put.into_iter().chain(taken).chain(on_sheet).chain(with_curves).map(|line| format!("{line}\n"));
     assert_eq!(printed_in_c("header"), answers.to_string() + &tiles.collect::<String>());
 }
 
 #[test]
 fn no_entry_is_read_after_the_first_out_of_range() {
     let printed = printed_in_c("reads");
-    assert_eq!(printed.lines().count(), 7 * 16);
+    assert_eq!(printed.lines().count(), 11 * 16);
     for line in printed.lines() {
         // where the last entry of all is in range, there is none after it to be read
         let last = [" 4095 of 4096:", " 1023 of 1024:"].iter().any(|last| line.contains(last));

@@ -64,6 +64,32 @@ static uint32_t take_on_sheet(int64_t *table) {
     return mattuliyan_take_on_sheet(SHEET, SIDE_ON_SHEET, 2, 1, points, 6, 3, placement, 1, &edges, table, ENTRIES_ON_SHEET);
 }
 
+/* The same point three times, the first edge being a curve whose control point it is too. */
+static const int64_t curve[] = {5, 9, 5, 9, 5, 9, 5, 9};
+static const uint8_t marks[] = {1, 0, 0};
+
+static uint32_t put_curves(int64_t *table) {
+    uint32_t edges = 3;
+    return mattuliyan_put_curves(SIDE, curve, 8, 3, marks, 3, placement, 1, &edges, table, ENTRIES);
+}
+
+static uint32_t take_curves(int64_t *table) {
+    uint32_t edges = 3;
+    return mattuliyan_take_curves(SIDE, curve, 8, 3, marks, 3, placement, 1, &edges, table, ENTRIES);
+}
+
+static uint32_t put_curves_on_sheet(int64_t *table) {
+    uint32_t edges = 3;
+    return mattuliyan_put_curves_on_sheet(SHEET, SIDE_ON_SHEET, 2, 1, curve, 8, 3, marks, 3, placement, 1, &edges, table,
+                                          ENTRIES_ON_SHEET);
+}
+
+static uint32_t take_curves_on_sheet(int64_t *table) {
+    uint32_t edges = 3;
+    return mattuliyan_take_curves_on_sheet(SHEET, SIDE_ON_SHEET, 2, 1, curve, 8, 3, marks, 3, placement, 1, &edges, table,
+                                           ENTRIES_ON_SHEET);
+}
+
 static void fail(const char *what) {
     perror(what);
     exit(1);
@@ -98,6 +124,10 @@ int main(void) {
         {"take", take, ENTRIES},
         {"put on a sheet", put_on_sheet, ENTRIES_ON_SHEET},
         {"take on a sheet", take_on_sheet, ENTRIES_ON_SHEET},
+        {"put curves", put_curves, ENTRIES},
+        {"take curves", take_curves, ENTRIES},
+        {"put curves on a sheet", put_curves_on_sheet, ENTRIES_ON_SHEET},
+        {"take curves on a sheet", take_curves_on_sheet, ENTRIES_ON_SHEET},
     };
     static const size_t first[] = {0, 1, 2, 3, 4, 7, 8, 15, 16, 63, 64, 511, 512, 1000}; /* and the last two of each table */
     const size_t places = sizeof first / sizeof *first + 2;

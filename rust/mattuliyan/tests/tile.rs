@@ -1,5 +1,5 @@
 //! `Tile`: what it refuses, that a refused call leaves it as it was, and that it is drawn as its table is.
-use mattuliyan::{Placement, Refusal, SheetTile, Tile};
+use mattuliyan::{Placement, Refusal, SheetTile, Site, Tile};
 
 /// On a tile of 2 pixels, 01's letters A, F and G.
 const A: [i64; 8] = [0, 0, 256, 0, 256, 256, 0, 256];
@@ -251,5 +251,100 @@ fn refused_on_a_sheet() {
             assert!(expected.is_ok() || corrected == tile);
             assert_eq!(corrected.place(), tile.place());
         }
+    }
+}
+
+/// A curve from corner to corner of a pixel, of 8 chords, and two straight edges: its points, its chords' ends and the entries that it has on a tile of
+/// 2, where all of it is in the first pixel.
+const SHELL: [i64; 8] = [0, 0, 256, 0, 256, 256, 0, 256];
+const SHELL_MARKS: [u8; 3] = [1, 0, 0];
+const SHELL_CHORDS: [i64; 20] =
+    [0, 0, 60, 4, 112, 16, 156, 36, 192, 64, 220, 100, 240, 144, 252, 196, 256, 256, 0, 256];
+const SHELL_ENTRIES: [i64; 4] = [108_544; 4];
+
+#[test]
+fn corrected_curves() {
+    for site in [Site::Alone(2), Site::OnSheet(at(2, 2, 0, 0)), Site::OnSheet(at(4, 2, 0, 0))] {
+        let empty = Tile::build_curves(site, &[], &[], &[], Placement::None).unwrap();
+        let place = match site {
+            Site::Alone(_) => None,
+            Site::OnSheet(place) => Some(place),
+        };
+        assert_eq!((empty.side(), empty.place(), empty.edges(), empty.table()), (2, place, 0, &[0; 4][..]));
+        let mut tile = empty.clone();
+        tile.put_curves(&SHELL, &SHELL_MARKS, Placement::None).unwrap();
+        assert_eq!((tile.edges(), tile.table()), (10, &SHELL_ENTRIES[..]));
+        assert_eq!(tile, Tile::build_curves(site, &SHELL, &[3], &SHELL_MARKS, Placement::None).unwrap());
+        let mut table = [7; 4];
+        assert_eq!(mattuliyan::build_curves(site, &SHELL, &[3], &SHELL_MARKS, Placement::None, &mut table), Ok(10));
+        assert_eq!(tile.table(), table);
+
+        // with a straight letter in between, and out as the contour of its chords
+        tile.put(&F, Placement::None).unwrap();
+        let points = [&F[..], &SHELL].concat();
+        assert_eq!(tile, Tile::build_curves(site, &points, &[3, 3], &[0, 0, 0, 1, 0, 0], Placement::None).unwrap());
+        tile.take(&SHELL_CHORDS, Placement::None).unwrap();
+        assert_eq!(tile, Tile::build_curves(site, &F, &[3], &[0; 3], Placement::None).unwrap());
+        tile.take_curves(&F, &[0; 3], Placement::None).unwrap();
+        assert_eq!(tile, empty);
+
+        // under one placement and another
+        tile.put_curves(&SHELL.map(|c| c - 9), &SHELL_MARKS, Placement::Shift(8.5, 8.5)).unwrap();
+        tile.take_curves(&SHELL.map(|c| 2 * c), &SHELL_MARKS, Placement::Scale(0.5)).unwrap();
+        assert_eq!(tile, empty);
+    }
+    assert_eq!(Tile::build_curves(Site::Alone(2), &[], &[], &[], Placement::None), Tile::new(2));
+}
+
+#[test]
+fn refused_curves() {
+    let tile = Tile::build_curves(Site::Alone(2), &SHELL, &[3], &SHELL_MARKS, Placement::None).unwrap();
+    let far = Placement::Shift(0.0, 257.0);
+    // 16 chords, from one corner to the other and back
+    let loops = |count: usize| ([0, 0, 512, 512].repeat(count), vec![1; count]);
+    let (many, marks) = loops(65);
+    for (points, marks, placement, put, taken) in [
+        (&[][..], &[][..], Placement::None, Err(4), Err(4)),
+        (&SHELL, &SHELL_MARKS[..2], Placement::None, Err(4), Err(4)),
+        (&SHELL, &[1; 1025], Placement::None, Err(4), Err(4)),
+        (&SHELL, &[2, 0, 0], Placement::Scale(f64::NAN), Err(16), Err(16)),
+        (&SHELL, &[0, 0, 255], Placement::None, Err(16), Err(16)),
+        (&SHELL, &[0; 3], Placement::None, Err(3), Err(3)),
+        (&SHELL, &[1, 1, 0], Placement::None, Err(3), Err(3)),
+        (&SHELL[1..], &SHELL_MARKS, Placement::Scale(f64::NAN), Err(3), Err(3)),
+        (&SHELL, &SHELL_MARKS, Placement::Scale(f64::INFINITY), Err(12), Err(12)),
+        (&SHELL, &SHELL_MARKS, far, Err(6), Err(6)),
+        (&many, &marks, far, Err(6), Err(6)),
+        (&many, &marks, Placement::None, Err(5), Err(5)),
+        (&many[..4 * 64], &marks[..64], Placement::None, Err(5), Err(13)),
+        (&many[..4 * 63], &marks[..63], Placement::None, Ok(10 + 63 * 16), Err(13)),
+        (&[0; 12], &[1; 3], Placement::None, Ok(13), Ok(7)),
+        (&SHELL, &SHELL_MARKS, Placement::None, Ok(20), Ok(0)),
+    ] {
+        type OfCurves = fn(&mut Tile, &[i64], &[u8], Placement) -> Result<(), Refusal>;
+        for (call, expected) in [(Tile::put_curves as OfCurves, put), (Tile::take_curves, taken)] {
+            let mut corrected = tile.clone();
+            let answer = call(&mut corrected, points, marks, placement);
+            let found = number(answer.map(|()| corrected.edges()));
+            assert_eq!(found, expected, "{} numbers, {} marks", points.len(), marks.len());
+            assert!(expected.is_ok() || corrected == tile);
+        }
+    }
+    // 13 for one chord more than are in, though the edges as marked are fewer
+    let mut tile = Tile::build(2, &[0; 18], &[9], Placement::None).unwrap();
+    assert_eq!(number(tile.take_curves(&SHELL, &SHELL_MARKS, Placement::None)), Err(13));
+
+    for side in [0, 3, 65, 128, 1 << 16, u32::MAX] {
+        assert_eq!(number(Tile::build_curves(Site::Alone(side), &[1], &[2], &[9], Placement::Scale(f64::NAN))), Err(1));
+    }
+    for (place, expected) in [
+        (at(4, 3, 0, 0), 14),
+        (at(128, 64, 0, 0), 14),
+        (at(u32::MAX, u32::MAX, 0, 0), 14),
+        (at(4, 2, 2, 0), 15),
+        (at(4, 2, 0, u32::MAX), 15),
+    ] {
+        let built = Tile::build_curves(Site::OnSheet(place), &[1], &[2], &[9], Placement::Scale(f64::NAN));
+        assert_eq!(number(built), Err(expected), "{place:?}");
     }
 }

@@ -5,7 +5,8 @@
 //! subtracted from it in 128 bits, where no sum of 64-bit numbers overflows.
 //! The questions are asked of these sums; only then is anything written.
 
-use crate::edge::edges;
+use crate::curve::{placed_chords, Curves};
+use crate::edge::{edges, Edge};
 use crate::placement::{placed, Placement};
 use crate::questions::{Given, Question};
 use crate::rules::Rules;
@@ -85,7 +86,7 @@ pub fn take_on_sheet(
     correct(rules, Correction::TakeOut, contour, record, table)
 }
 
-fn correct(
+pub(crate) fn correct(
     rules: &dyn Rules,
     correction: Correction,
     contour: Given,
@@ -93,8 +94,10 @@ fn correct(
     table: &mut [i64],
 ) -> Result<(), u8> {
     let contour = Given { table, ..contour };
-    let after = leaves(rules, correction, contour);
-    let counted = rules.recorded(correction, *record, contour.counts[0]);
+    let (edges, after) = leaves(rules, correction, contour).unzip();
+    let count = contour.counts[0];
+    // A contour without values is refused, and its count is not kept.
+    let counted = rules.recorded(correction, *record, edges.unwrap_or(count));
 
     let given = Given { correction: Some(correction), record: *record, leaves: after.as_deref(), ..contour };
     let order = match correction {
@@ -117,32 +120,43 @@ fn correct(
     answer
 }
 
-/// The questions that a contour has values by. Question 5 is not among them:
-/// question 4 has answered it for the one count.
-const OF_CONTOUR: [Question; 6] = {
+/// The questions that a contour has values by. Question 5 is among them for the
+/// chords of a contour with marks, of which there may be very many: question 4 has
+/// answered it for the one count.
+const OF_CONTOUR: [Question; 7] = {
     use Question::*;
-    [Side, TableLength, EachCount, PointsLength, Placing, Coordinates]
+    [Side, TableLength, EachCount, CountSum, PointsLength, Placing, Coordinates]
 };
 
-/// The table that a correction would leave, however large its entries are.
-/// There is none where the contour has no values: such a call is refused for
-/// the contour, unless the table before it is refused first.
-fn leaves(rules: &dyn Rules, correction: Correction, contour: Given) -> Option<Vec<i128>> {
+/// How many edges a correction counts, and the table that it would leave, however
+/// large its entries are. There is neither where the contour has no values: such a
+/// call is refused for the contour, unless the table before it is refused first.
+fn leaves(rules: &dyn Rules, correction: Correction, contour: Given) -> Option<(u32, Vec<i128>)> {
     contour.ask(&OF_CONTOUR, rules).ok()?;
-    let values = values(rules, correction, contour);
+    let count = contour.counts[0];
+    let (counted, edges) = match contour.marks {
+        Some(marks) => {
+            let curves = Curves { points: contour.points, marks };
+            let chords = placed_chords(rules, contour.placement, curves, contour.counts)?.concat();
+            (rules.recorded_edges(count, chords.len() as u32), chords)
+        }
+        None => {
+            let placed = placed(rules, contour.placement, contour.points);
+            let points = rules.corrected_points(correction, contour.points, &placed);
+            (count, edges(rules, points, contour.counts))
+        }
+    };
+    let values = values(rules, contour, &rules.corrected_edges(correction, edges));
     let changed = |(&entry, value): (&i64, i64)| rules.changed(correction, entry.into(), value.into());
-    Some(contour.table.iter().zip(values).map(changed).collect())
+    Some((counted, contour.table.iter().zip(values).map(changed).collect()))
 }
 
 /// The contour's own table: entry 0 its signed area, or on a sheet the tile's
 /// root, and "each edge's three values are rounded on their own."
-fn values(rules: &dyn Rules, correction: Correction, contour: Given) -> Vec<i64> {
-    let placed = placed(rules, contour.placement, contour.points);
-    let points = rules.corrected_points(correction, contour.points, &placed);
-    let edges = rules.corrected_edges(correction, edges(rules, points, contour.counts));
+fn values(rules: &dyn Rules, contour: Given, edges: &[Edge]) -> Vec<i64> {
     match contour.place {
-        Some(place) => worked_on_sheet(rules, place, &edges),
-        None => worked(rules, contour.side, &edges),
+        Some(place) => worked_on_sheet(rules, place, edges),
+        None => worked(rules, contour.side, edges),
     }
 }
 

@@ -1,12 +1,13 @@
 //! An independent reference for grey tiles from traced outlines.
 //!
-//! It states the specification ("01") and four paragraphs of the change
+//! It states the specification ("01") and five paragraphs of the change
 //! requests ("02"), P1 on placements, P3 on contours put in and taken out, P4 on
-//! wrong-handed tracing and P5 on letters that cross the tile, a second time, in
-//! plain Rust and by another method than the product, so that the two can be
-//! compared on any input. It is written to be read: nothing here is tuned beyond
-//! what running it on many thousands of outlines needs. (The stored answers also
-//! take a count from P2, and from P12 when an edge comes inside a cell.)
+//! wrong-handed tracing, P5 on letters that cross the tile and P6 on round letters
+//! from curves, a second time, in plain Rust and by another method than the
+//! product, so that the two can be compared on any input. It is written to be
+//! read: nothing here is tuned beyond what running it on many thousands of outlines
+//! needs. (The stored answers also take a count from P2, and from P12 when an edge
+//! comes inside a cell.)
 //!
 //! # How areas are worked out
 //!
@@ -88,6 +89,16 @@
 //! tile's area, and each part is rounded as a detail is. The calls that draw are
 //! those of a tile alone, for a table does not tell where it comes from.
 //!
+//! # How curves are drawn
+//!
+//! 02 lets an edge be a quadratic Bézier curve, and draws 2^k chords for it. Here
+//! a call with marks makes the outline of all chords, a straight edge being one,
+//! and all else is done with that: table and root are those of the chords, and
+//! whoever measures demand 3 hands the outline of [`chords`] to [`exact_areas`]. A
+//! point of a curve is worked out by its definition, as an exact fraction for each
+//! parameter on its own, and rounded once. The questions are asked of the edges as
+//! they are marked, or of the chords, as 02 says for each.
+//!
 //! # The rules, and wrong rules
 //!
 //! What a careful person may get wrong stands in the trait [`Rules`], whose
@@ -105,7 +116,7 @@
 //! # Reading order
 //!
 //! `rules`, `questions`, `placement`, `edge`, `table`, `correction`, `sheet`,
-//! `picture`, `area`, `frame`; then `exact` and `big`, the arithmetic below; then
+//! `curve`, `picture`, `area`, `frame`; then `exact` and `big`, the arithmetic below; then
 //! `wrong` and `answers`.
 
 #![forbid(unsafe_code)]
@@ -115,6 +126,7 @@ pub mod answers;
 mod area;
 mod big;
 mod correction;
+mod curve;
 mod edge;
 mod exact;
 mod frame;
@@ -128,6 +140,7 @@ pub mod wrong;
 
 pub use area::{exact_areas, exact_areas_on_sheet, exact_details, exact_details_on_sheet, signed_area};
 pub use correction::{put, put_on_sheet, take, take_on_sheet, Correction};
+pub use curve::{build_curves, chords, put_curves, take_curves, Curve, Curves, Site};
 pub use edge::{Bend, Cell, Edge, Fraction, Profile};
 pub use exact::{Exact, Miss};
 pub use frame::{frame, tile_program, Frame};

@@ -4,14 +4,17 @@
 //! order in which they are asked is a mere list.
 
 use crate::correction::Correction;
+use crate::curve::{placed_chords, wanted, without_controls, Curves};
 use crate::placement::{moved, numbers, Placement};
 use crate::rules::Rules;
 use crate::sheet::SheetTile;
 use crate::{PARTS, STEPS};
+use std::borrow::Cow;
 
 /// 01's ten questions about a call, 02's about a placement, which is 12, 02's
-/// about taking out, which is 13, and 02's two about a tile of a sheet; each
-/// one's number is the refusal's. 11 is the tile program's alone.
+/// about taking out, which is 13, 02's two about a tile of a sheet, and 02's about
+/// the marks of curved edges, which is 16; each one's number is the refusal's. 11
+/// is the tile program's alone.
 #[derive(Clone, Copy, Debug, PartialEq, Eq)]
 pub enum Question {
     /// Is the side 1, 2, 4, 8, 16, 32 or 64?
@@ -19,15 +22,16 @@ pub enum Question {
     /// Does the table have exactly side × side entries? On a sheet, the side is
     /// the tile's.
     TableLength = 2,
-    /// Are the points exactly twice as many numbers as the counts' sum?
+    /// Are the points exactly twice as many numbers as the counts' sum? With
+    /// marks, are they two for each straight edge and four for each curved one?
     PointsLength = 3,
     /// Is every count from 3 to 1,024?
     EachCount = 4,
     /// Is the counts' sum at most 1,024? For putting in, is the record's count
-    /// plus the contour's?
+    /// plus the contour's? With marks, it is the chords that are counted.
     CountSum = 5,
     /// Is every coordinate, as placed, from 0 to 256 × side? On a sheet, the
-    /// side is the sheet's.
+    /// side is the sheet's. With marks, the control points' are asked about too.
     Coordinates = 6,
     /// Is the level at most the depth?
     Level = 7,
@@ -48,6 +52,8 @@ pub enum Question {
     SheetSides = 14,
     /// Is the tile's place on the sheet?
     TilePlace = 15,
+    /// Is every mark 0 or 1, and are the marks as many as the counts' sum?
+    Marks = 16,
 }
 
 /// The limits that the questions compare with.
@@ -77,6 +83,8 @@ pub struct Limits {
     pub lowest_moved: i64,
     /// The largest coordinate of a point to be moved.
     pub highest_moved: i64,
+    /// The largest k: a curve becomes at most 2^k chords.
+    pub most_halvings: u32,
 }
 
 impl Limits {
@@ -93,6 +101,7 @@ impl Limits {
         largest_offset: 16_384 * PARTS,
         lowest_moved: -32_768,
         highest_moved: 32_767,
+        most_halvings: 7,
     };
 }
 
@@ -106,6 +115,8 @@ pub(crate) struct Given<'a> {
     pub table: &'a [i64],
     pub points: &'a [i64],
     pub counts: &'a [u32],
+    /// Of a call with marks, the marks.
+    pub marks: Option<&'a [u8]>,
     pub placement: Placement,
     pub level: u32,
     pub places: usize,
@@ -118,11 +129,15 @@ pub(crate) struct Given<'a> {
 
 impl Given<'_> {
     /// "The first 'no' decides": its number, or no refusal. The order is that of
-    /// the call without a sheet.
+    /// the call without a sheet and without marks.
     pub fn ask(&self, order: &[Question], rules: &dyn Rules) -> Result<(), u8> {
-        let order = match self.place {
-            Some(_) => rules.on_sheet(order),
+        let order = match self.marks {
+            Some(_) => rules.with_marks(order),
             None => order.to_vec(),
+        };
+        let order = match self.place {
+            Some(_) => rules.on_sheet(&order),
+            None => order,
         };
         match order.iter().find(|&&question| !self.yes(question, rules)) {
             Some(&no) => Err(no as u8),
@@ -138,7 +153,10 @@ impl Given<'_> {
                 let side = self.place.map_or(self.side, |place| rules.table_side(place));
                 self.table.len() as u128 == u128::from(side) * u128::from(side)
             }
-            Question::PointsLength => self.points.len() as u128 == 2 * sum(self.counts),
+            Question::PointsLength => {
+                let numbers = self.marks.map_or(2 * sum(self.counts), |marks| wanted(rules, self.counts, marks));
+                self.points.len() as u128 == numbers
+            }
             Question::EachCount => {
                 self.counts.iter().all(|count| (limits.least_count..=limits.most_count).contains(count))
             }
@@ -146,7 +164,11 @@ impl Given<'_> {
             Question::Coordinates => {
                 let far = STEPS * i64::from(self.place.map_or(self.side, |place| rules.coordinate_side(place)));
                 match moved(rules, self.placement, self.points) {
-                    Some(placed) => rules.judged(self.points, &placed).iter().all(|x| (0..=far).contains(x)),
+                    Some(placed) => {
+                        let judged = rules.judged(self.points, &placed);
+                        let judged = self.covered(rules, judged, rules.coordinates_cover_controls());
+                        judged.iter().all(|x| (0..=far).contains(x))
+                    }
                     // A float that is refused places no point, so that there
                     // is none to find off the tile.
                     None => true,
@@ -172,20 +194,46 @@ impl Given<'_> {
             Question::Placing => {
                 let movable = limits.lowest_moved..=limits.highest_moved;
                 let floats = || !rules.asks_floats(self.points) || numbers(rules, self.placement).is_some();
-                let points = || self.points.iter().all(|x| movable.contains(x));
+                let covered = || self.covered(rules, self.points, rules.placing_covers_controls());
+                let points = || covered().iter().all(|x| movable.contains(x));
                 !rules.moves_points(self.placement) || (floats() && points())
             }
-            Question::EnoughRecorded => rules.enough_recorded(self.record, sum(self.counts)),
+            Question::EnoughRecorded => {
+                let (marked, chords) = (sum(self.counts), self.chords(rules));
+                rules.enough_recorded(self.record, chords.map_or(marked, |chords| rules.taken_edges(marked, chords)))
+            }
             Question::SheetSides => self.place.is_none_or(|place| rules.are_sheet_sides(place)),
             Question::TilePlace => self.place.is_none_or(|place| rules.is_on_sheet(place)),
+            Question::Marks => self.marks.is_none_or(|marks| {
+                let enough = rules.are_enough_marks(marks.len() as u128, sum(self.counts));
+                enough && marks.iter().all(|&mark| rules.is_mark(mark))
+            }),
         }
     }
 
     /// The edges that question 5 is about.
     fn edges(&self, rules: &dyn Rules) -> u128 {
+        let (marked, chords) = (sum(self.counts), self.chords(rules));
+        let edges = chords.map_or(marked, |chords| rules.summed_edges(marked, chords));
         match self.correction {
-            Some(correction) => rules.asked_edges(correction, self.record, sum(self.counts)),
-            None => sum(self.counts),
+            Some(correction) => rules.asked_edges(correction, self.record, edges),
+            None => edges,
+        }
+    }
+
+    /// Of a call with marks, how many chords there are. Where there are none to be
+    /// had, because numbers are missing or a float is refused, it is no chord.
+    fn chords(&self, rules: &dyn Rules) -> Option<u128> {
+        let curves = Curves { points: self.points, marks: self.marks? };
+        let contours = placed_chords(rules, self.placement, curves, self.counts).unwrap_or_default();
+        Some(contours.iter().map(|contour| contour.len() as u128).sum())
+    }
+
+    /// These points, the control points with them or not.
+    fn covered<'b>(&self, rules: &dyn Rules, points: &'b [i64], controls: bool) -> Cow<'b, [i64]> {
+        match self.marks {
+            Some(marks) if !controls => Cow::Owned(without_controls(rules, points, self.counts, marks)),
+            _ => Cow::Borrowed(points),
         }
     }
 }

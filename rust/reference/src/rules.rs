@@ -1,6 +1,7 @@
-//! 01's rules and those of 02's P1, P3, P4 and P5, one small method each.
+//! 01's rules and those of 02's P1, P3, P4, P5 and P6, one small method each.
 
 use crate::correction::Correction;
+use crate::curve::Curve;
 use crate::edge::{Cell, Edge, Fraction, Profile};
 use crate::exact::Exact;
 use crate::placement::{in_parts, Placement};
@@ -8,8 +9,8 @@ use crate::questions::{is_side, Limits, Question};
 use crate::sheet::SheetTile;
 use crate::{FULL_GREY, PARTS, PIXEL, STEPS};
 
-/// The rules of 01 and of 02's P1, P3, P4 and P5 that are easily got wrong. Each
-/// default body is the papers' rule; a wrong variant overrides one of them.
+/// The rules of 01 and of 02's P1, P3, P4, P5 and P6 that are easily got wrong.
+/// Each default body is the papers' rule; a wrong variant overrides one of them.
 pub trait Rules {
     /// The questions for building, in order: 1, 2, 4, 5, 3, 12, 6.
     fn building(&self) -> Vec<Question> {
@@ -48,6 +49,20 @@ pub trait Rules {
         use Question::*;
         let replaced = |&question: &Question| match question {
             Side => vec![SheetSides, TilePlace],
+            other => vec![other],
+        };
+        order.iter().flat_map(replaced).collect()
+    }
+
+    /// The questions of a call with marks, from those of the same call without
+    /// them: 16 comes "after 4 and before 3", and 5 "comes right after 6, before
+    /// 13." It is applied before [`on_sheet`](Rules::on_sheet) is.
+    fn with_marks(&self, order: &[Question]) -> Vec<Question> {
+        use Question::*;
+        let replaced = |&question: &Question| match question {
+            EachCount => vec![EachCount, Marks],
+            CountSum => vec![],
+            Coordinates => vec![Coordinates, CountSum],
             other => vec![other],
         };
         order.iter().flat_map(replaced).collect()
@@ -292,9 +307,139 @@ pub trait Rules {
         let tile = self.square(place);
         edges.iter().map(|edge| self.round(edge.area(tile))).sum()
     }
+
+    /// Whether a number is a mark: "0 straight or 1 curved [...]. Another mark
+    /// [...] gives 16."
+    fn is_mark(&self, mark: u8) -> bool {
+        mark <= 1
+    }
+
+    /// Whether an edge of this mark is curved.
+    fn is_curved(&self, mark: u8) -> bool {
+        mark == 1
+    }
+
+    /// Whether there is a mark "for each edge": "not one mark an edge gives 16."
+    fn are_enough_marks(&self, marks: u128, edges: u128) -> bool {
+        marks == edges
+    }
+
+    /// Which mark is a contour's first, with so many edges in the contours before
+    /// it: the marks go on where those of the contour before ended.
+    fn first_mark(&self, before: u128) -> u128 {
+        before
+    }
+
+    /// How many numbers an edge has: "3 wants two numbers for a straight edge, its
+    /// start, and four for a curved one."
+    fn wanted_numbers(&self, mark: u8) -> usize {
+        if self.is_curved(mark) {
+            4
+        } else {
+            2
+        }
+    }
+
+    /// A curved edge's two points in the order in which they came: "its start and
+    /// then its control point."
+    fn start_and_control(&self, points: [[i64; 2]; 2]) -> [[i64; 2]; 2] {
+        points
+    }
+
+    /// "6 covers control points."
+    fn coordinates_cover_controls(&self) -> bool {
+        true
+    }
+
+    /// Control points are points to be moved as the others are, and so question 12
+    /// covers them too.
+    fn placing_covers_controls(&self) -> bool {
+        true
+    }
+
+    /// A control point, of the one that came and the one placed: "a placement moves
+    /// control points like the other points."
+    fn placed_control(&self, _before: [i64; 2], placed: [i64; 2]) -> [i64; 2] {
+        placed
+    }
+
+    /// Whether the chords are made first and then placed. The points are placed
+    /// "before the chords are made."
+    fn chords_first(&self) -> bool {
+        false
+    }
+
+    /// Whether edge `i` of `count` may be curved. Every one may, the last one too,
+    /// which ends at the contour's first point.
+    fn bends(&self, _i: usize, _count: usize) -> bool {
+        true
+    }
+
+    /// Whether "neither coordinate of p0 − 2 × p1 + p2 exceeds 4 × 4^k in
+    /// magnitude."
+    fn is_flat(&self, [x, y]: [i128; 2], k: u32) -> bool {
+        let most = 4 * 4i128.pow(k);
+        x.abs() <= most && y.abs() <= most
+    }
+
+    /// k of a curve: "the least from 0 to 7 for which" it is flat. There is one
+    /// where every coordinate is from 0 to 32,768. Elsewhere, where question 6
+    /// refuses, 7 is taken so that question 5 has an answer.
+    fn halvings(&self, curve: Curve) -> u32 {
+        let (difference, most) = (curve.second_difference(), self.limits().most_halvings);
+        (0..most).find(|&k| self.is_flat(difference, k)).unwrap_or(most)
+    }
+
+    /// The point of a curve that is the end of `i` of its `n` chords: they are "at
+    /// equal parameter steps."
+    fn curve_point(&self, curve: Curve, i: i128, n: i128) -> [Fraction; 2] {
+        curve.at(i, n)
+    }
+
+    /// "Chord ends are rounded to the nearest step, halves towards the larger."
+    fn chord_end(&self, value: Fraction) -> i128 {
+        (2 * value.num + value.den).div_euclid(2 * value.den)
+    }
+
+    /// The ends of a curve's 2^k chords, from its start to its end.
+    fn chord_ends(&self, curve: Curve, k: u32) -> Vec<[i64; 2]> {
+        let n = 1 << k;
+        // A point of the curve lies between the three points that it is made of.
+        let rounded = |i| self.curve_point(curve, i, n).map(|value| self.chord_end(value) as i64);
+        (0..=n).map(rounded).collect()
+    }
+
+    /// The chords of a curve: from each of their ends to the next, up to the
+    /// curve's end.
+    fn chords_between(&self, ends: &[[i64; 2]]) -> Vec<Edge> {
+        let chord = |two: &[[i64; 2]]| Edge { x0: two[0][0], y0: two[0][1], x1: two[1][0], y1: two[1][1] };
+        ends.windows(2).map(chord).collect()
+    }
+
+    /// The edges that question 5 sums up, of those that are marked and the chords:
+    /// "5 counts chords."
+    fn summed_edges(&self, _marked: u128, chords: u128) -> u128 {
+        chords
+    }
+
+    /// The edges that question 13 compares with the record, likewise: "edge counts
+    /// [...] are then those of the chords."
+    fn taken_edges(&self, _marked: u128, chords: u128) -> u128 {
+        chords
+    }
+
+    /// The edges that a correction counts in the record, likewise.
+    fn recorded_edges(&self, _marked: u32, chords: u32) -> u32 {
+        chords
+    }
+
+    /// The edge count that building answers, likewise.
+    fn answered_edges(&self, _marked: u32, chords: u32) -> u32 {
+        chords
+    }
 }
 
-/// 01, and 02's P1, P3, P4 and P5, as they stand.
+/// 01, and 02's P1, P3, P4, P5 and P6, as they stand.
 #[derive(Clone, Copy, Debug, Default)]
 pub struct Spec;
 

@@ -1,7 +1,8 @@
-//! Wrong variants: each spoils one rule of 01 or of 02's P1, P3, P4 or P5, so
+//! Wrong variants: each spoils one rule of 01 or of 02's P1, P3, P4, P5 or P6, so
 //! that a comparison with this reference can be shown to notice.
 
 use crate::correction::{written, Correction};
+use crate::curve::Curve;
 use crate::edge::{Bend, Cell, Edge, Fraction, Profile};
 use crate::exact::Exact;
 use crate::placement::Placement;
@@ -143,6 +144,54 @@ pub fn of_sheet() -> Vec<(&'static str, Box<dyn Rules>)> {
         ("a tile larger than its sheet not 14", Box::new(LargerThanSheet)),
         ("question 2 with the sheet's side", Box::new(SheetTable)),
         ("question 6 with the tile's side", Box::new(TileCoordinates)),
+    ]
+}
+
+/// All variants of 02's P6, each with a short name. They have a list of their own
+/// because only the calls with marks can tell them.
+pub fn of_curve() -> Vec<(&'static str, Box<dyn Rules>)> {
+    vec![
+        ("k one too small", Box::new(OneHalvingLess)),
+        ("k one too large", Box::new(OneHalvingMore)),
+        ("k at most 6", Box::new(SixHalvings)),
+        ("k by x alone", Box::new(FlatInX)),
+        ("k by y alone", Box::new(FlatInY)),
+        ("k by either coordinate", Box::new(FlatInEither)),
+        ("k by both coordinates' sum", Box::new(FlatInSum)),
+        ("k by the length of the second difference", Box::new(FlatInLength)),
+        ("k where a coordinate reaches its limit", Box::new(LimitNotFlat)),
+        ("k by twice the limit for each halving", Box::new(LimitDoubled)),
+        ("chord ends' halves towards the smaller", Box::new(ChordHalvesSmaller)),
+        ("chord ends' halves to the even step", Box::new(ChordHalvesEven)),
+        ("chord ends cut off", Box::new(ChordEndsCut)),
+        ("chord ends on the control polygon", Box::new(OnControlPolygon)),
+        ("chord ends by halving, rounded at each level", Box::new(RoundedHalving)),
+        ("the last chord of a curve left out", Box::new(LastChordLeftOut)),
+        ("a closing curve taken for straight", Box::new(ClosingCurveStraight)),
+        ("every curve taken for straight", Box::new(CurvesStraight)),
+        ("control points not placed", Box::new(ControlNotPlaced)),
+        ("chords made before they are placed", Box::new(ChordsFirst)),
+        ("the control point before the start", Box::new(ControlFirst)),
+        ("four numbers for every edge", Box::new(FourNumbers)),
+        ("marks from the first one on for each contour", Box::new(MarksFromFirst)),
+        ("mark 2 taken for curved", Box::new(MarkTwoCurved)),
+        ("marks past 1 taken for straight", Box::new(MarksPastOneStraight)),
+        ("too many marks accepted", Box::new(MoreMarks)),
+        ("too few marks accepted", Box::new(FewerMarks)),
+        ("question 16 asked after question 3", Box::new(MarksAfterPointsLength)),
+        ("question 16 asked before question 4", Box::new(MarksBeforeCounts)),
+        ("question 5 asked before question 3", Box::new(ChordsBeforePointsLength)),
+        ("question 5 asked before question 12", Box::new(ChordsBeforePlacing)),
+        ("question 5 asked before question 6", Box::new(ChordsBeforeCoordinates)),
+        ("question 5 asked after question 13", Box::new(ChordsAfterRecorded)),
+        ("question 5 asked after question 9", Box::new(ChordsAfterEntries)),
+        ("question 5 not asked when taking curves out", Box::new(ChordsNotAskedTaking)),
+        ("question 5 of the edges as marked", Box::new(MarkedSummed)),
+        ("question 13 of the edges as marked", Box::new(MarkedTaken)),
+        ("the record counting edges as marked", Box::new(MarkedRecorded)),
+        ("building answering edges as marked", Box::new(MarkedAnswered)),
+        ("question 6 without control points", Box::new(ControlsNotJudged)),
+        ("question 12 without control points", Box::new(ControlsMovedFromAnywhere)),
     ]
 }
 
@@ -1172,5 +1221,430 @@ pub struct TileCoordinates;
 impl Rules for TileCoordinates {
     fn coordinate_side(&self, place: SheetTile) -> u32 {
         place.side
+    }
+}
+
+/// Wrong: a curve becomes half as many chords.
+pub struct OneHalvingLess;
+
+impl Rules for OneHalvingLess {
+    fn halvings(&self, curve: Curve) -> u32 {
+        Spec.halvings(curve).saturating_sub(1)
+    }
+}
+
+/// Wrong: a curve becomes twice as many chords, where there may be as many.
+pub struct OneHalvingMore;
+
+impl Rules for OneHalvingMore {
+    fn halvings(&self, curve: Curve) -> u32 {
+        (Spec.halvings(curve) + 1).min(Limits::SPEC.most_halvings)
+    }
+}
+
+/// Wrong: a curve becomes at most 64 chords.
+pub struct SixHalvings;
+
+impl Rules for SixHalvings {
+    fn limits(&self) -> Limits {
+        Limits { most_halvings: Limits::SPEC.most_halvings - 1, ..Limits::SPEC }
+    }
+}
+
+/// Wrong: only x is asked about.
+pub struct FlatInX;
+
+impl Rules for FlatInX {
+    fn is_flat(&self, [x, _]: [i128; 2], k: u32) -> bool {
+        Spec.is_flat([x, 0], k)
+    }
+}
+
+/// Wrong: only y is asked about.
+pub struct FlatInY;
+
+impl Rules for FlatInY {
+    fn is_flat(&self, [_, y]: [i128; 2], k: u32) -> bool {
+        Spec.is_flat([0, y], k)
+    }
+}
+
+/// Wrong: x and y have a k each, and the smaller is taken.
+pub struct FlatInEither;
+
+impl Rules for FlatInEither {
+    fn is_flat(&self, [x, y]: [i128; 2], k: u32) -> bool {
+        Spec.is_flat([x, 0], k) || Spec.is_flat([0, y], k)
+    }
+}
+
+/// Wrong: the two magnitudes together are not to exceed the limit.
+pub struct FlatInSum;
+
+impl Rules for FlatInSum {
+    fn is_flat(&self, [x, y]: [i128; 2], k: u32) -> bool {
+        Spec.is_flat([x.abs() + y.abs(), 0], k)
+    }
+}
+
+/// Wrong: the distance, and not each coordinate, is not to exceed the limit.
+pub struct FlatInLength;
+
+impl Rules for FlatInLength {
+    fn is_flat(&self, [x, y]: [i128; 2], k: u32) -> bool {
+        // No square is worked out of what is too large as it is, for it need not fit.
+        Spec.is_flat([x, y], k) && x * x + y * y <= (4 * 4i128.pow(k)).pow(2)
+    }
+}
+
+/// Wrong: a magnitude of 4 × 4^k itself is too large for k.
+pub struct LimitNotFlat;
+
+impl Rules for LimitNotFlat {
+    fn is_flat(&self, [x, y]: [i128; 2], k: u32) -> bool {
+        Spec.is_flat([x.abs() + 1, y.abs() + 1], k)
+    }
+}
+
+/// Wrong: the limit is 4 × 2^k, as if a chord half as long left its curve by half
+/// as much and not by a quarter.
+pub struct LimitDoubled;
+
+impl Rules for LimitDoubled {
+    fn is_flat(&self, [x, y]: [i128; 2], k: u32) -> bool {
+        x.abs().max(y.abs()) <= 4 << k
+    }
+}
+
+/// Wrong: a chord's end at 1 1/2 is 1.
+pub struct ChordHalvesSmaller;
+
+impl Rules for ChordHalvesSmaller {
+    fn chord_end(&self, value: Fraction) -> i128 {
+        PlacedHalvesSmaller.nearest_step(value)
+    }
+}
+
+/// Wrong: a chord's end at 1/2 is 0, and one at 1 1/2 is 2.
+pub struct ChordHalvesEven;
+
+impl Rules for ChordHalvesEven {
+    fn chord_end(&self, value: Fraction) -> i128 {
+        PlacedHalvesEven.nearest_step(value)
+    }
+}
+
+/// Wrong: a chord's end loses its fraction.
+pub struct ChordEndsCut;
+
+impl Rules for ChordEndsCut {
+    fn chord_end(&self, value: Fraction) -> i128 {
+        value.num / value.den
+    }
+}
+
+/// Wrong: the chords end on the two lines from the start over the control point to
+/// the end.
+pub struct OnControlPolygon;
+
+impl Rules for OnControlPolygon {
+    fn curve_point(&self, curve: Curve, i: i128, n: i128) -> [Fraction; 2] {
+        [0, 1].map(|c| {
+            let [start, control, end] = [curve.start, curve.control, curve.end].map(|point| i128::from(point[c]));
+            let num = if 2 * i <= n {
+                (n - 2 * i) * start + 2 * i * control
+            } else {
+                2 * (n - i) * control + (2 * i - n) * end
+            };
+            Fraction { num, den: n }
+        })
+    }
+}
+
+/// Wrong: a curve is halved into two curves, these into four and so on, and every
+/// middle is rounded on the way.
+pub struct RoundedHalving;
+
+impl Rules for RoundedHalving {
+    fn chord_ends(&self, curve: Curve, k: u32) -> Vec<[i64; 2]> {
+        let Curve { start, control, end } = curve;
+        if k == 0 {
+            return vec![start, end];
+        }
+        let middle = |a: [i64; 2], b: [i64; 2]| {
+            [0, 1].map(|c| self.chord_end(Fraction { num: i128::from(a[c]) + i128::from(b[c]), den: 2 }) as i64)
+        };
+        let (first, second) = (middle(start, control), middle(control, end));
+        let between = middle(first, second);
+        let mut ends = self.chord_ends(Curve { start, control: first, end: between }, k - 1);
+        ends.pop();
+        ends.append(&mut self.chord_ends(Curve { start: between, control: second, end }, k - 1));
+        ends
+    }
+}
+
+/// Wrong: a curve's chords end one before its end.
+pub struct LastChordLeftOut;
+
+impl Rules for LastChordLeftOut {
+    fn chords_between(&self, ends: &[[i64; 2]]) -> Vec<Edge> {
+        Spec.chords_between(&ends[..ends.len() - 1])
+    }
+}
+
+/// Wrong: the last edge of a contour is straight whatever its mark.
+pub struct ClosingCurveStraight;
+
+impl Rules for ClosingCurveStraight {
+    fn bends(&self, i: usize, count: usize) -> bool {
+        i + 1 < count
+    }
+}
+
+/// Wrong: control points are read, and not used.
+pub struct CurvesStraight;
+
+impl Rules for CurvesStraight {
+    fn bends(&self, _i: usize, _count: usize) -> bool {
+        false
+    }
+}
+
+/// Wrong: only the starts of the edges are placed.
+pub struct ControlNotPlaced;
+
+impl Rules for ControlNotPlaced {
+    fn placed_control(&self, before: [i64; 2], _placed: [i64; 2]) -> [i64; 2] {
+        before
+    }
+}
+
+/// Wrong: the chords are those of the curves as they came, and their ends are
+/// placed.
+pub struct ChordsFirst;
+
+impl Rules for ChordsFirst {
+    fn chords_first(&self) -> bool {
+        true
+    }
+}
+
+/// Wrong: a curved edge's control point comes before its start.
+pub struct ControlFirst;
+
+impl Rules for ControlFirst {
+    fn start_and_control(&self, [control, start]: [[i64; 2]; 2]) -> [[i64; 2]; 2] {
+        [start, control]
+    }
+}
+
+/// Wrong: a straight edge has a control point too, which is not used.
+pub struct FourNumbers;
+
+impl Rules for FourNumbers {
+    fn wanted_numbers(&self, _mark: u8) -> usize {
+        4
+    }
+}
+
+/// Wrong: every contour begins with the first mark of all.
+pub struct MarksFromFirst;
+
+impl Rules for MarksFromFirst {
+    fn first_mark(&self, _before: u128) -> u128 {
+        0
+    }
+}
+
+/// Wrong: 2 is a mark, and means curved.
+pub struct MarkTwoCurved;
+
+impl Rules for MarkTwoCurved {
+    fn is_mark(&self, mark: u8) -> bool {
+        mark <= 2
+    }
+
+    fn is_curved(&self, mark: u8) -> bool {
+        mark == 1 || mark == 2
+    }
+}
+
+/// Wrong: any byte is a mark, and all but 1 mean straight.
+pub struct MarksPastOneStraight;
+
+impl Rules for MarksPastOneStraight {
+    fn is_mark(&self, _mark: u8) -> bool {
+        true
+    }
+}
+
+/// Wrong: marks that belong to no edge are passed over.
+pub struct MoreMarks;
+
+impl Rules for MoreMarks {
+    fn are_enough_marks(&self, marks: u128, edges: u128) -> bool {
+        marks >= edges
+    }
+}
+
+/// Wrong: edges that have no mark are straight.
+pub struct FewerMarks;
+
+impl Rules for FewerMarks {
+    fn are_enough_marks(&self, marks: u128, edges: u128) -> bool {
+        marks <= edges
+    }
+}
+
+/// The papers' order for a call with marks, with one question elsewhere: right
+/// before another, if both are asked.
+fn asked_before(question: Question, other: Question, order: &[Question]) -> Vec<Question> {
+    let order = Spec.with_marks(order);
+    if !order.contains(&question) {
+        return order;
+    }
+    let moved = |each: Question| match each {
+        each if each == question => vec![],
+        each if each == other => vec![question, other],
+        each => vec![each],
+    };
+    order.into_iter().flat_map(moved).collect()
+}
+
+/// Wrong: question 16 comes right after question 3.
+pub struct MarksAfterPointsLength;
+
+impl Rules for MarksAfterPointsLength {
+    fn with_marks(&self, order: &[Question]) -> Vec<Question> {
+        asked_before(Question::PointsLength, Question::Marks, order)
+    }
+}
+
+/// Wrong: question 16 comes right before question 4.
+pub struct MarksBeforeCounts;
+
+impl Rules for MarksBeforeCounts {
+    fn with_marks(&self, order: &[Question]) -> Vec<Question> {
+        asked_before(Question::Marks, Question::EachCount, order)
+    }
+}
+
+/// Wrong: question 5 comes before question 3, as it does without marks.
+pub struct ChordsBeforePointsLength;
+
+impl Rules for ChordsBeforePointsLength {
+    fn with_marks(&self, order: &[Question]) -> Vec<Question> {
+        asked_before(Question::CountSum, Question::PointsLength, order)
+    }
+}
+
+/// Wrong: question 5 comes right before question 12.
+pub struct ChordsBeforePlacing;
+
+impl Rules for ChordsBeforePlacing {
+    fn with_marks(&self, order: &[Question]) -> Vec<Question> {
+        asked_before(Question::CountSum, Question::Placing, order)
+    }
+}
+
+/// Wrong: question 5 comes right before question 6.
+pub struct ChordsBeforeCoordinates;
+
+impl Rules for ChordsBeforeCoordinates {
+    fn with_marks(&self, order: &[Question]) -> Vec<Question> {
+        asked_before(Question::CountSum, Question::Coordinates, order)
+    }
+}
+
+/// Wrong: question 5 comes right after question 13.
+pub struct ChordsAfterRecorded;
+
+impl Rules for ChordsAfterRecorded {
+    fn with_marks(&self, order: &[Question]) -> Vec<Question> {
+        asked_before(Question::EnoughRecorded, Question::CountSum, order)
+    }
+}
+
+/// Wrong: question 5 comes last, after question 9.
+pub struct ChordsAfterEntries;
+
+impl Rules for ChordsAfterEntries {
+    fn with_marks(&self, order: &[Question]) -> Vec<Question> {
+        let mut order = Spec.with_marks(order);
+        order.retain(|&each| each != Question::CountSum);
+        order.push(Question::CountSum);
+        order
+    }
+}
+
+/// Wrong: taking out is not asked question 5, as if question 4 had answered it for
+/// the chords as well.
+pub struct ChordsNotAskedTaking;
+
+impl Rules for ChordsNotAskedTaking {
+    fn asked_edges(&self, correction: Correction, record: u32, edges: u128) -> u128 {
+        match correction {
+            Correction::PutIn => Spec.asked_edges(correction, record, edges),
+            Correction::TakeOut => 0,
+        }
+    }
+}
+
+/// Wrong: question 5 counts a curve as one edge.
+pub struct MarkedSummed;
+
+impl Rules for MarkedSummed {
+    fn summed_edges(&self, marked: u128, _chords: u128) -> u128 {
+        marked
+    }
+}
+
+/// Wrong: question 13 counts a curve as one edge.
+pub struct MarkedTaken;
+
+impl Rules for MarkedTaken {
+    fn taken_edges(&self, marked: u128, _chords: u128) -> u128 {
+        marked
+    }
+}
+
+/// Wrong: the record counts a curve as one edge.
+pub struct MarkedRecorded;
+
+impl Rules for MarkedRecorded {
+    fn recorded_edges(&self, marked: u32, _chords: u32) -> u32 {
+        marked
+    }
+}
+
+/// Wrong: the edge count that building answers has a curve as one edge.
+pub struct MarkedAnswered;
+
+impl Rules for MarkedAnswered {
+    fn answered_edges(&self, marked: u32, _chords: u32) -> u32 {
+        marked
+    }
+}
+
+/// Wrong: a control point may lie off the tile.
+pub struct ControlsNotJudged;
+
+impl Rules for ControlsNotJudged {
+    fn coordinates_cover_controls(&self) -> bool {
+        false
+    }
+
+    // One that is very far off is held where its chords can be worked out.
+    fn placed_control(&self, _before: [i64; 2], placed: [i64; 2]) -> [i64; 2] {
+        placed.map(|c| c.clamp(-1 << 20, 1 << 20))
+    }
+}
+
+/// Wrong: a control point to be moved may lie anywhere.
+pub struct ControlsMovedFromAnywhere;
+
+impl Rules for ControlsMovedFromAnywhere {
+    fn placing_covers_controls(&self) -> bool {
+        false
     }
 }

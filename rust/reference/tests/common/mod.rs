@@ -1,9 +1,9 @@
-//! Pseudo-random outlines, placements and tiles of sheets for the tests, the same
-//! at each run, and calls that draw a tile or correct it.
+//! Pseudo-random outlines, curved ones too, placements and tiles of sheets for the
+//! tests, the same at each run, and calls that draw a tile or correct it.
 #![allow(dead_code)] // each test file uses a part of this
 
-use reference::{figures, greys, put, put_on_sheet, take, take_on_sheet};
-use reference::{Correction, Placement, Rules, SheetTile, Spec};
+use reference::{build_curves, figures, greys, put, put_curves, put_on_sheet, take, take_curves, take_on_sheet};
+use reference::{Correction, Curves, Placement, Rules, SheetTile, Site, Spec};
 
 /// An outline that building accepts.
 #[derive(Clone, Debug)]
@@ -48,6 +48,27 @@ impl Outline {
             rest = after;
         }
         other
+    }
+}
+
+/// An outline with curved edges that building accepts but for the chords, of which
+/// there may be too many.
+#[derive(Clone, Debug)]
+pub struct Curved {
+    pub points: Vec<i64>,
+    pub counts: Vec<u32>,
+    pub marks: Vec<u8>,
+}
+
+impl Curved {
+    pub fn curves(&self) -> Curves<'_> {
+        Curves { points: &self.points, marks: &self.marks }
+    }
+
+    /// Building it: the edge count and the table, or the refusal's number.
+    pub fn built(&self, rules: &dyn Rules, site: Site, placement: Placement) -> Result<(u32, Vec<i64>), u8> {
+        let held = vec![7; (site.side() * site.side()) as usize];
+        build_curves(rules, site, self.curves(), &self.counts, placement, &held)
     }
 }
 
@@ -111,6 +132,47 @@ impl Random {
         Outline { side, points, counts, straight: kind == 4 }
     }
 
+    /// A random outline of one to three contours with curved edges on a tile or a
+    /// sheet of some side, mostly of few chords, the control points anywhere, near
+    /// the edge or on the border.
+    pub fn curved_outline_of(&mut self, side: u32) -> Curved {
+        let far = 256 * i64::from(side);
+        let mut outline = Curved { points: vec![], counts: vec![], marks: vec![] };
+        for _ in 0..1 + self.below(3) {
+            let reach = if self.below(2) == 0 { far } else { far.min(1 + self.below(2000)) };
+            let corner = [0; 2].map(|_: i64| self.below(far + 1 - reach));
+            let more = if self.below(6) == 0 { 40 } else { 4 };
+            let count = 3 + self.below(more);
+            for _ in 0..count {
+                let start = corner.map(|c| c + self.below(reach + 1));
+                outline.points.extend(start);
+                let mark = self.below(2);
+                outline.marks.push(mark as u8);
+                let control = match self.below(4) {
+                    0 => [self.below(far + 1), self.below(far + 1)],
+                    1 => [far * self.below(2), self.below(far + 1)],
+                    _ => corner.map(|c| c + self.below(reach + 1)),
+                };
+                if mark == 1 {
+                    outline.points.extend(control);
+                }
+            }
+            outline.counts.push(count as u32);
+        }
+        outline
+    }
+
+    /// A tile alone or a tile of a sheet, and the side of what an outline lies on
+    /// there.
+    pub fn site(&mut self) -> (Site, u32) {
+        if self.below(2) == 0 {
+            let side = 1 << self.below(7);
+            return (Site::Alone(side), side);
+        }
+        let place = self.sheet_tile();
+        (Site::OnSheet(place), place.sheet)
+    }
+
     /// A random tile of a sheet, all sides as often as one another.
     pub fn sheet_tile(&mut self) -> SheetTile {
         let sides = sheet_sides();
@@ -167,6 +229,8 @@ pub struct Call {
     /// The tile's place, which has its own side, where it is one of a sheet.
     pub place: Option<SheetTile>,
     pub points: Vec<i64>,
+    /// The marks of a call that has them.
+    pub marks: Option<Vec<u8>>,
     pub count: u32,
     pub placement: Placement,
     pub record: u32,
@@ -179,8 +243,26 @@ pub type Outcome = (Result<(), u8>, u32, Vec<i64>);
 impl Call {
     /// A contour that is not moved.
     pub fn of(correction: Correction, side: u32, points: &[i64], record: u32, table: &[i64]) -> Call {
-        let (count, placement) = (points.len() as u32 / 2, Placement::None);
-        Call { correction, side, place: None, points: points.to_vec(), count, placement, record, table: table.to_vec() }
+        let (points, table) = (points.to_vec(), table.to_vec());
+        let (count, placement, place, marks) = (points.len() as u32 / 2, Placement::None, None, None);
+        Call { correction, side, place, points, marks, count, placement, record, table }
+    }
+
+    /// A contour with marks, an edge for each of them.
+    pub fn marked(
+        correction: Correction,
+        site: Site,
+        points: &[i64],
+        marks: &[u8],
+        record: u32,
+        table: &[i64],
+    ) -> Call {
+        let place = match site {
+            Site::Alone(_) => None,
+            Site::OnSheet(place) => Some(place),
+        };
+        let (count, marks) = (marks.len() as u32, Some(marks.to_vec()));
+        Call { place, count, marks, ..Call::of(correction, site.side(), points, record, table) }
     }
 
     /// The same, of a tile of a sheet.
@@ -191,6 +273,16 @@ impl Call {
     pub fn outcome(&self, rules: &dyn Rules) -> Outcome {
         let Call { side, count, placement, mut record, .. } = *self;
         let (points, mut table) = (&self.points, self.table.clone());
+        if let Some(marks) = &self.marks {
+            let site = self.place.map_or(Site::Alone(side), Site::OnSheet);
+            let correct = match self.correction {
+                Correction::PutIn => put_curves,
+                Correction::TakeOut => take_curves,
+            };
+            let curves = Curves { points, marks };
+            let answer = correct(rules, site, curves, count, placement, &mut record, &mut table);
+            return (answer, record, table);
+        }
         let answer = match (self.correction, self.place) {
             (Correction::PutIn, None) => put(rules, side, points, count, placement, &mut record, &mut table),
             (Correction::TakeOut, None) => take(rules, side, points, count, placement, &mut record, &mut table),

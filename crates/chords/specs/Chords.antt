@@ -1,0 +1,37 @@
+-- The edges that a contour with curved edges is drawn as: its straight edges, and the chords of its curves. "Edge counts and closeness are then those of the
+-- chords": all that is said of edges elsewhere, of their table, of what is drawn of it and how near that is, is said of these.
+--
+-- Definitions
+--   splitsOf c                   k, of the 2^k chords of a curve
+--   chordPoint c i               the ends of its chords, number 0 to 2^k
+--   chordsOf s                   the edges of a side
+--   contourChords, outlineChords those of a contour, and of an outline
+use mathlib.Core.List.{List, [], _∷_}
+use Prim.Native.Nat.{ℕ, suc, _^_}
+use Rattle.integers.specs.ListSum.{joined}
+use Rattle.edge.specs.declared.Edge.{Edge}
+use Rattle.curve.specs.Curve.{bend, splits, chordEnd}
+use Rattle.haar.specs.Pictures.{tabulate}
+use Rattle.accuracy.specs.Outline.{Point, edgeBetween}
+use Rattle.chords.specs.declared.Curve.{Curve}
+use Rattle.chords.specs.declared.Side.{Side}
+use Rattle.chords.specs.declared.Side.the-variants.{Straight, Curved}
+use Rattle.chords.specs.Sides.{MarkedContour, sidesOf}
+
+-- one k for both coordinates
+abbrev pub splitsOf : Curve → ℕ
+splitsOf c = splits (bend (c .x0) (c .cx) (c .x1)) (bend (c .y0) (c .cy) (c .y1))
+
+abbrev pub chordPoint : Curve → ℕ → Point
+chordPoint c i = record { x = chordEnd (c .x0) (c .cx) (c .x1) (splitsOf c) i; y = chordEnd (c .y0) (c .cy) (c .y1) (splitsOf c) i }
+
+-- "A curve becomes 2^k chords at equal parameter steps."
+unfoldable pub chordsOf : Side → List Edge
+chordsOf (Straight e) = e ∷ []
+chordsOf (Curved c) = tabulate (2 ^ splitsOf c) (λ i. edgeBetween (chordPoint c i) (chordPoint c (suc i)))
+
+abbrev pub contourChords : MarkedContour → List Edge
+contourChords c = joined chordsOf (sidesOf c)
+
+abbrev pub outlineChords : List MarkedContour → List Edge
+outlineChords cs = joined contourChords cs
