@@ -6,3 +6,5 @@ pub mod Coordinates
 pub mod Left
 -- the side that is next in a contour
 pub mod NextSide
+-- the contour that is next in an outline
+pub mod NextContour

@@ -1,7 +1,7 @@
 //! One call of the library beside the same call of the reference: equal answers, equal buffers afterwards, and nothing else written.
 use crate::{placements, sheets};
 use mattuliyan::Refusal;
-use reference::{Correction, Placement, Rules, SheetTile};
+use reference::{Correction, Curves, Placement, Rules, SheetTile, Site};
 use std::fmt::{Debug, Display, Formatter};
 
 /// What is answered or left otherwise than the reference says, in words.
@@ -71,6 +71,32 @@ pub fn build_on_sheet(
     }))
 }
 
+/// Building an outline with marks, on either ground, likewise.
+pub fn build_curves(
+    rules: &dyn Rules,
+    ground: Ground,
+    curves: Curves,
+    counts: &[u32],
+    placement: Placement,
+    held: &[i64],
+) -> Result<Result<(u32, Vec<i64>), u8>, Difference> {
+    let Curves { points, marks } = curves;
+    let expected = reference::build_curves(rules, ground.site(), curves, counts, placement, held);
+    let site = ground.for_library();
+    let numbers = placements::numbers(placement);
+    let (lent, lent_marks) = (Guarded::new(&numbers), Guarded::new(marks));
+    let by_numbers = built("build_curves_by_numbers", points, counts, held, &expected, |points, counts, table| {
+        mattuliyan::build_curves_by_numbers(site, points, counts, lent_marks.get(), lent.get(), table)
+    });
+    lent.same("the numbers after build_curves_by_numbers", &numbers)?;
+    let by_type = by_numbers.and(built("build_curves", points, counts, held, &expected, |points, counts, table| {
+        let placement = placements::for_library(placement);
+        mattuliyan::build_curves(site, points, counts, lent_marks.get(), placement, table)
+    }));
+    lent_marks.same("the marks after build_curves", marks)?;
+    by_type
+}
+
 /// Building on either ground. Where there is no placement, a tile alone has a call of its own.
 pub fn build_on(
     rules: &dyn Rules,
@@ -130,6 +156,21 @@ impl Ground {
             Ground::Sheet(place) => place.sheet,
         }
     }
+
+    /// As the calls with marks are given it, by the reference and by the library.
+    pub fn site(self) -> Site {
+        match self {
+            Ground::Tile(side) => Site::Alone(side),
+            Ground::Sheet(place) => Site::OnSheet(place),
+        }
+    }
+
+    pub fn for_library(self) -> mattuliyan::Site {
+        match self {
+            Ground::Tile(side) => mattuliyan::Site::Alone(side),
+            Ground::Sheet(place) => mattuliyan::Site::OnSheet(sheets::for_library(place)),
+        }
+    }
 }
 
 /// A tile: a table with the record of its edge count.
@@ -145,6 +186,8 @@ pub struct Correcting {
     pub correction: Correction,
     pub ground: Ground,
     pub points: Vec<i64>,
+    /// the marks of a call that has them
+    pub marks: Option<Vec<u8>>,
     pub count: u32,
     pub placement: Placement,
     /// as it is before the call
@@ -154,6 +197,9 @@ pub struct Correcting {
 /// Correcting a tile: what the library answers, and the tile that it leaves where it is done, which the reference says too. It is called by the
 /// placement's type and by its numbers, as for building.
 pub fn correct(rules: &dyn Rules, call: &Correcting) -> Result<Result<Tile, u8>, Difference> {
+    if let Some(marks) = &call.marks {
+        return correct_curves(rules, call, marks);
+    }
     let Correcting { count, placement, .. } = *call;
     let (name, left, answer) = expected(rules, call);
 
@@ -195,9 +241,46 @@ pub fn correct(rules: &dyn Rules, call: &Correcting) -> Result<Result<Tile, u8>,
     Ok(answer.map(|()| left))
 }
 
+/// The same for a call with marks.
+fn correct_curves(rules: &dyn Rules, call: &Correcting, marks: &[u8]) -> Result<Result<Tile, u8>, Difference> {
+    let Correcting { correction, ground, ref points, count, placement, .. } = *call;
+    let mut left = call.tile.clone();
+    let Tile { record, table } = &mut left;
+    let curves = Curves { points, marks };
+    let (name, answer) = match correction {
+        Correction::PutIn => {
+            ("put_curves", reference::put_curves(rules, ground.site(), curves, count, placement, record, table))
+        }
+        Correction::TakeOut => {
+            ("take_curves", reference::take_curves(rules, ground.site(), curves, count, placement, record, table))
+        }
+    };
+
+    let site = ground.for_library();
+    let numbers = placements::numbers(placement);
+    let (lent, lent_marks) = (Guarded::new(&numbers), Guarded::new(marks));
+    corrected(&format!("{name}_by_numbers"), call, answer, &left, |points, edges, table| {
+        let make = match correction {
+            Correction::PutIn => mattuliyan::put_curves_by_numbers,
+            Correction::TakeOut => mattuliyan::take_curves_by_numbers,
+        };
+        make(site, points, count, lent_marks.get(), lent.get(), edges, table)
+    })?;
+    lent.same(&format!("the numbers after {name}_by_numbers"), &numbers)?;
+    corrected(name, call, answer, &left, |points, edges, table| {
+        let make = match correction {
+            Correction::PutIn => mattuliyan::put_curves,
+            Correction::TakeOut => mattuliyan::take_curves,
+        };
+        make(site, points, count, lent_marks.get(), placements::for_library(placement), edges, table)
+    })?;
+    lent_marks.same(&format!("the marks after {name}"), marks)?;
+    Ok(answer.map(|()| left))
+}
+
 /// The call's name, and by the reference the tile that it leaves and what it answers.
 fn expected(rules: &dyn Rules, call: &Correcting) -> (&'static str, Tile, Result<(), u8>) {
-    let Correcting { correction, ground, ref points, count, placement, ref tile } = *call;
+    let Correcting { correction, ground, ref points, count, placement, ref tile, .. } = *call;
     let mut left = tile.clone();
     let Tile { record, table } = &mut left;
     let (name, answer) = match (ground, correction) {
@@ -243,11 +326,17 @@ pub fn correct_owned(
 ) -> Result<(), Difference> {
     let placement = placements::for_library(call.placement);
     let lent_points = Guarded::new(&call.points);
-    let answer = match call.correction {
-        Correction::PutIn => owned.put(lent_points.get(), placement),
-        Correction::TakeOut => owned.take(lent_points.get(), placement),
+    let lent_marks = call.marks.as_ref().map(|marks| Guarded::new(marks));
+    let answer = match (call.correction, &lent_marks) {
+        (Correction::PutIn, None) => owned.put(lent_points.get(), placement),
+        (Correction::TakeOut, None) => owned.take(lent_points.get(), placement),
+        (Correction::PutIn, Some(marks)) => owned.put_curves(lent_points.get(), marks.get(), placement),
+        (Correction::TakeOut, Some(marks)) => owned.take_curves(lent_points.get(), marks.get(), placement),
     };
     lent_points.same("the points after a tile's own call", &call.points)?;
+    if let (Some(lent), Some(marks)) = (&lent_marks, &call.marks) {
+        lent.same("the marks after a tile's own call", marks)?;
+    }
     let answered = expected.as_ref().map(|_| ()).map_err(|&number| number);
     same("what a tile's own call answers", &answer.map_err(Refusal::number), &answered)?;
     same_owned(owned, call.ground, expected.as_ref().unwrap_or(&call.tile))
@@ -323,8 +412,8 @@ fn picture<T: Element>(
 
 /// Elements of the buffers that are lent.
 trait Element: Copy + Debug {
-    /// What stands around a buffer. No call writes it as its answer; and where a coordinate, a count, an entry or a number of a placement can be
-    /// refused, it is one that is, so that reading it shows.
+    /// What stands around a buffer. No call writes it as its answer; and where a coordinate, a count, a mark, an entry or a number of a placement can
+    /// be refused, it is one that is, so that reading it shows.
     const MARK: Self;
     /// Elements are compared by their bits: a float that is not a number is not equal to itself.
     fn bits(self) -> u64;

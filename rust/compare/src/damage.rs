@@ -1,10 +1,11 @@
 //! Calls that may be refused: sound ones with some part damaged, often two parts, so that the order of the questions matters.
 use crate::calls::{Correcting, Ground, Tile};
+use crate::curves::Curved;
 use crate::outlines::{Outline, MOST_EDGES, SIDES};
 use crate::placements::{self, FACTOR, HIGHEST, LOWEST, OFFSET, PART};
 use crate::random::Random;
 use crate::sheets::{self, PAIRS};
-use reference::{Correction, Limits, Placement, SheetTile, STEPS};
+use reference::{Correction, Curve, Limits, Placement, Rules, SheetTile, Spec, STEPS};
 
 /// Question 9: an entry's limit, either way.
 pub const ENTRY_LIMIT: i64 = Limits::SPEC.largest_entry;
@@ -18,6 +19,8 @@ const NO_SHEETS: [u32; 9] = [0, 3, 33, 96, 127, 129, 256, 1 << 31, u32::MAX];
 const NO_SIDES_ON_SHEET: [u32; 9] = [0, 3, 12, 31, 33, 64, 128, 1 << 31, u32::MAX];
 /// Counts that no contour has.
 const NO_COUNTS: [u32; 9] = [0, 1, 2, 1025, 2000, BEYOND_16_BITS + 3, BEYOND_16_BITS + 1024, 1 << 31, u32::MAX];
+/// Bytes that are no mark.
+const NO_MARKS: [u8; 6] = [2, 3, 128, 129, 254, 255];
 /// Levels past every depth, some of which would shift a word out of its width.
 const NO_LEVELS: [u32; 11] = [7, 8, 16, 31, 32, 64, 100, 256, BEYOND_16_BITS, 1 << 31, u32::MAX];
 /// Entries at the limit, and past it by little and by much.
@@ -139,10 +142,109 @@ pub fn placing(random: &mut Random, ground: Ground, outline: &Outline) -> (Build
     (call, placements::of_numbers(&numbers))
 }
 
+/// Building an outline with curved edges, from points that are placed: what is built, its marks and the placement.
+pub struct Curving {
+    pub building: Building,
+    pub marks: Vec<u8>,
+    pub placement: Placement,
+}
+
+/// Building an outline with curved edges, damaged in one or two parts.
+pub fn curving(random: &mut Random, ground: Ground, curved: &Curved) -> Curving {
+    let (placement, points) = placements::onto_the_tile(random, &curved.outline);
+    let building = sound(random, ground, &Outline { points, ..curved.outline.clone() });
+    let mut call = Curving { building, marks: curved.marks.clone(), placement };
+    let limit = STEPS * ground.reach() as i64;
+    for _ in 0..random.within(1, 2) {
+        let Curving { building, marks, placement } = &mut call;
+        match random.index(16) {
+            0 => no_ground(random, &mut building.ground, &mut building.table),
+            1 => another_ground(random, &mut building.ground),
+            2 => resize(random, &mut building.table),
+            3 => put(random, &mut building.counts, NO_COUNTS),
+            4 => {
+                // an edge goes from one contour to the next, or comes from nowhere
+                let last = building.counts.len().saturating_sub(1);
+                building.counts.iter_mut().take(1).for_each(|count| *count = count.wrapping_add(1));
+                if random.once_in(2) {
+                    building.counts.iter_mut().skip(last).for_each(|count| *count = count.wrapping_sub(1));
+                }
+            }
+            5..8 => no_marks(random, marks),
+            8 => resize(random, &mut building.points),
+            9 => put(random, &mut building.points, [-1, limit, limit + 1, i64::MIN, i64::MAX, 1 << 32]),
+            10 => put(random, &mut building.points, REACHES),
+            11 => {
+                let mut numbers = placements::numbers(*placement);
+                let (float, any) = (random.pick(&FLOATS), f64::from_bits(random.number()));
+                put(random, &mut numbers, [float, -float, any]);
+                *placement = placements::of_numbers(&numbers);
+            }
+            _ => {
+                // so many loops from corner to corner and back that there are too many chords, or just as many as there may be
+                let more = loops(random, ground.reach());
+                if let Some(count) = building.counts.last_mut() {
+                    *count = count.wrapping_add(more.marks.len() as u32);
+                    building.points.extend(&more.outline.points);
+                    marks.extend(&more.marks);
+                } else {
+                    (building.points, building.counts) = (more.outline.points, more.outline.counts);
+                    *marks = more.marks;
+                }
+            }
+        }
+    }
+    call
+}
+
+/// Loops of as many chords as a curve can have on this side, from corner to corner and back: together nearly as many as there may be, just as many,
+/// or more.
+fn loops(random: &mut Random, side: u32) -> Curved {
+    let limit = STEPS * i64::from(side);
+    let each = 1 << Spec.halvings(Curve { start: [0; 2], control: [limit; 2], end: [0; 2] });
+    let count = MOST_EDGES / each + random.within(-1, 1) as u32;
+    let points = [0, 0, limit, limit].repeat(count as usize);
+    Curved { outline: Outline { side, points, counts: vec![count] }, marks: vec![1; count as usize] }
+}
+
+/// The marks become such as there are not, or others: one that is neither 0 nor 1, one that is the other of the two, another number of them.
+fn no_marks(random: &mut Random, marks: &mut Vec<u8>) {
+    match random.index(4) {
+        0 => put(random, marks, NO_MARKS),
+        1 => {
+            let at = random.index(marks.len().max(1));
+            marks.iter_mut().skip(at).take(1).for_each(|mark| *mark ^= 1);
+        }
+        _ => {
+            let (length, mark) = (marks.len(), random.index(2) as u8);
+            let length = random.pick(&[
+                0,
+                2 * length,
+                length + 1,
+                length.saturating_sub(1),
+                length + 256,
+                length + BEYOND_16_BITS as usize,
+            ]);
+            marks.resize(length, mark);
+        }
+    }
+}
+
 /// A correction of a tile, damaged in one or two parts. (Again, not every damage shows.)
 pub fn correcting(random: &mut Random, mut call: Correcting) -> Correcting {
     let limit = STEPS * call.ground.reach() as i64;
     for _ in 0..random.within(1, 2) {
+        if let Some(marks) = call.marks.as_mut().filter(|_| random.once_in(3)) {
+            if random.once_in(2) {
+                no_marks(random, marks);
+            } else {
+                let more = loops(random, call.ground.reach());
+                call.count = call.count.wrapping_add(more.marks.len() as u32);
+                call.points.extend(&more.outline.points);
+                marks.extend(&more.marks);
+            }
+            continue;
+        }
         match random.index(14) {
             0 => no_ground(random, &mut call.ground, &mut call.tile.table),
             1 => another_ground(random, &mut call.ground),
@@ -186,6 +288,10 @@ fn to_the_limit(random: &mut Random, call: &mut Correcting) {
     let mut own = vec![0; call.tile.table.len()];
     let (points, counts, placement) = (&call.points, &[call.count], placements::for_library(call.placement));
     let built = match call.ground {
+        ground if call.marks.is_some() => {
+            let marks = call.marks.as_deref().unwrap_or_default();
+            mattuliyan::build_curves(ground.for_library(), points, counts, marks, placement, &mut own)
+        }
         Ground::Tile(side) => mattuliyan::build_placed(side, points, counts, placement, &mut own),
         Ground::Sheet(place) => {
             mattuliyan::build_on_sheet(sheets::for_library(place), points, counts, placement, &mut own)

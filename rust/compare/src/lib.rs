@@ -6,8 +6,10 @@
 //! A run is a list of cases, each made from the run's seed and its own number, so that any of them can be tried again alone. A case takes one
 //! accepted outline through building and every drawing call at every level ([`calls`]), and one like it that is placed first ([`placements`]),
 //! holds what is drawn to demand 3 with exact areas ([`demand3`]), and makes some calls that may be refused ([`damage`]). Tiles of sheets have runs of
-//! their own ([`sheets`]), and so have corrections of tiles, which are runs of series ([`series`]).
+//! their own ([`sheets`]), so have outlines with curved edges ([`curves`]), and so have corrections of tiles, which are runs of series ([`series`]).
+//! The letters of TrueType fonts, which are such outlines, are read by [`truetype`].
 pub mod calls;
+pub mod curves;
 pub mod damage;
 pub mod demand3;
 pub mod outlines;
@@ -16,6 +18,7 @@ pub mod printing;
 pub mod random;
 pub mod series;
 pub mod sheets;
+pub mod truetype;
 
 use calls::{Difference, Ground};
 use demand3::{Looked, Worst};
@@ -36,7 +39,7 @@ const CELLS_ALONE: usize = 64;
 const DAMAGED_CALLS: u32 = 2;
 
 /// One more than the greatest number that a call answers: 0 is the work done; 11 is the tile program's own and is not answered here.
-pub const ANSWERS: usize = 16;
+pub const ANSWERS: usize = 17;
 
 /// What a run has seen.
 #[derive(Default)]

@@ -17,6 +17,7 @@ fn call(correction: reference::Correction, side: u32, points: &[i64], record: u3
         correction,
         ground: Ground::Tile(side),
         points: points.to_vec(),
+        marks: None,
         count: points.len() as u32 / 2,
         placement: Placement::None,
         tile,

@@ -83,8 +83,8 @@ fn answers(place: SheetTile) -> [Result<(), u8>; 3] {
     let table = if place.side <= 64 { held(place) } else { vec![] };
     let corrected = |correction| {
         let tile = Tile { record: 3, table: table.clone() };
-        let (ground, points) = (Ground::Sheet(place), triangle.to_vec());
-        let call = Correcting { correction, ground, points, count: 3, placement: Placement::None, tile };
+        let (ground, points, marks) = (Ground::Sheet(place), triangle.to_vec(), None);
+        let call = Correcting { correction, ground, points, marks, count: 3, placement: Placement::None, tile };
         correct(&Spec, &call).unwrap().map(|_| ())
     };
     let built = build_on_sheet(&Spec, place, &triangle, &[3], Placement::None, &table).unwrap().map(|_| ());
@@ -200,6 +200,7 @@ fn largest_values() {
         correction,
         ground,
         points: round.clone(),
+        marks: None,
         count: MOST_EDGES,
         placement: Placement::None,
         tile: tile.clone(),

@@ -3,27 +3,29 @@
 -- Main results
 --   straight-chords              a straight side is its own edge
 --   curved-length                a curve has 2^k chords
---   chords-few                   at most 128 edges in any case
+--   chords-few, contour-few      at most 128 edges in any case; a contour has at most so many for each mark
 --   chord-next                   the chord that is next, and those after it
 use mathlib.Core.Path.{_≡_, refl, sym, _∙_, ap, ap₂, subst⁻¹}
 use mathlib.Core.List.{List, [], _∷_}
-use Prim.Native.Nat.{ℕ, suc, _+_, _^_, _<_, _≤_}
+use Prim.Native.Nat.{ℕ, suc, _+_, _*_, _^_, _<_, _≤_}
 use native.Mathlib.Omega.{arith}
 use native.Mathlib.Numerals.{add-one}
-use lib.ListN.{length, drop}
+use lib.ListN.{length, drop, length-append}
 use lib.Seq.{drop-cons}
 use lib.Pow.{pow-mono}
-use lib.IntN.{pos}
+use lib.IntN.{ℤ, pos}
 use Rattle.integers.specs.Units.{mostSplits, mostChords}
+use Rattle.integers.specs.ListSum.{joined}
 use Rattle.edge.specs.declared.Edge.{Edge}
 use Rattle.curve.specs.Curve.{bend}
 use Rattle.curve.specs.Laws.Splits.{splits-most}
 use Rattle.haar.specs.Laws.Pictures.{tabulate-length, tabulate-entry}
-use Rattle.accuracy.specs.Outline.{edgeBetween}
+use Rattle.accuracy.specs.Outline.{Point, pointAt, edgeBetween}
 use Rattle.chords.specs.declared.Curve.{Curve}
 use Rattle.chords.specs.declared.Side.{Side}
 use Rattle.chords.specs.declared.Side.the-variants.{Straight, Curved}
-use Rattle.chords.specs.Chords.{splitsOf, chordPoint, chordsOf}
+use Rattle.chords.specs.Sides.{numbersOf, sideTo, startOr, sidesFrom, MarkedContour}
+use Rattle.chords.specs.Chords.{splitsOf, chordPoint, chordsOf, contourChords}
 
 pub straight-chords : (e : Edge) → chordsOf (Straight e) ≡ e ∷ []
 unfolding chordsOf
@@ -54,3 +56,14 @@ chords-few (Straight e) = omega (arith, ap length (straight-chords e))
 chords-few (Curved c) =
     let most = splits-most (bend (c .x0) (c .cx) (c .x1)) (bend (c .y0) (c .cy) (c .y1)) in
     omega (arith, curved-length c, pow-mono {i = splitsOf c} {j = mostSplits} most)
+
+from-few : (first : Point) (ms : List ℕ) (zs : List ℤ) → length (joined chordsOf (sidesFrom first ms zs)) ≤ length ms * mostChords
+unfolding joined sidesFrom
+from-few first [] zs = omega arith
+from-few first (m ∷ ms) zs =
+    let rest = drop (numbersOf m) zs in
+    let side = sideTo m zs (startOr first ms rest) in
+    omega (arith, length-append (chordsOf side) (joined chordsOf (sidesFrom first ms rest)), chords-few side, from-few first ms rest)
+
+pub contour-few : (c : MarkedContour) → length (contourChords c) ≤ length (c .marks) * mostChords
+contour-few c = from-few (pointAt (c .coordinates) 0) (c .marks) (c .coordinates)
