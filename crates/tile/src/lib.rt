@@ -121,7 +121,7 @@ fn is_count(n: u32) -> bool
 }
 
 // Question 4.
-fn are_counts(counts: &[u32]) -> bool
+pub fn are_counts(counts: &[u32]) -> bool
     ensures { λ b. ⌜ b ≡ question4 (now (counts .entry)) .answer ⌝ }
 {
     let mut i = 0;

@@ -5,7 +5,7 @@ use crate::outlines::{Outline, MOST_EDGES, SIDES};
 use crate::placements::{self, FACTOR, HIGHEST, LOWEST, OFFSET, PART};
 use crate::random::Random;
 use crate::sheets::{self, PAIRS};
-use reference::{Correction, Curve, Limits, Placement, Rules, SheetTile, Spec, STEPS};
+use reference::{Correction, Limits, Placement, SheetTile, STEPS};
 
 /// Question 9: an entry's limit, either way.
 pub const ENTRY_LIMIT: i64 = Limits::SPEC.largest_entry;
@@ -157,7 +157,7 @@ pub fn curving(random: &mut Random, ground: Ground, curved: &Curved) -> Curving 
     let limit = STEPS * ground.reach() as i64;
     for _ in 0..random.within(1, 2) {
         let Curving { building, marks, placement } = &mut call;
-        match random.index(16) {
+        match random.index(13) {
             0 => no_ground(random, &mut building.ground, &mut building.table),
             1 => another_ground(random, &mut building.ground),
             2 => resize(random, &mut building.table),
@@ -180,31 +180,10 @@ pub fn curving(random: &mut Random, ground: Ground, curved: &Curved) -> Curving 
                 put(random, &mut numbers, [float, -float, any]);
                 *placement = placements::of_numbers(&numbers);
             }
-            _ => {
-                // so many loops from corner to corner and back that there are too many chords, or just as many as there may be
-                let more = loops(random, ground.reach());
-                if let Some(count) = building.counts.last_mut() {
-                    *count = count.wrapping_add(more.marks.len() as u32);
-                    building.points.extend(&more.outline.points);
-                    marks.extend(&more.marks);
-                } else {
-                    (building.points, building.counts) = (more.outline.points, more.outline.counts);
-                    *marks = more.marks;
-                }
-            }
+            _ => (), // as it is, if it is not damaged elsewhere
         }
     }
     call
-}
-
-/// Loops of as many chords as a curve can have on this side, from corner to corner and back: together nearly as many as there may be, just as many,
-/// or more.
-fn loops(random: &mut Random, side: u32) -> Curved {
-    let limit = STEPS * i64::from(side);
-    let each = 1 << Spec.halvings(Curve { start: [0; 2], control: [limit; 2], end: [0; 2] });
-    let count = MOST_EDGES / each + random.within(-1, 1) as u32;
-    let points = [0, 0, limit, limit].repeat(count as usize);
-    Curved { outline: Outline { side, points, counts: vec![count] }, marks: vec![1; count as usize] }
 }
 
 /// The marks become such as there are not, or others: one that is neither 0 nor 1, one that is the other of the two, another number of them.
@@ -235,14 +214,7 @@ pub fn correcting(random: &mut Random, mut call: Correcting) -> Correcting {
     let limit = STEPS * call.ground.reach() as i64;
     for _ in 0..random.within(1, 2) {
         if let Some(marks) = call.marks.as_mut().filter(|_| random.once_in(3)) {
-            if random.once_in(2) {
-                no_marks(random, marks);
-            } else {
-                let more = loops(random, call.ground.reach());
-                call.count = call.count.wrapping_add(more.marks.len() as u32);
-                call.points.extend(&more.outline.points);
-                marks.extend(&more.marks);
-            }
+            no_marks(random, marks);
             continue;
         }
         match random.index(14) {

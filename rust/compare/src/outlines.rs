@@ -20,7 +20,7 @@ pub struct Outline {
     pub counts: Vec<u32>,
 }
 
-type Point = (i64, i64);
+pub type Point = (i64, i64);
 
 impl Outline {
     pub fn edges(&self) -> u32 {
@@ -301,7 +301,7 @@ fn about_a_corner(random: &mut Random, limit: i64, count: usize) -> Vec<Point> {
 
 /// A polygon about a middle, clockwise as a letter or anticlockwise as a hole. Its points are on a circle, in whole numbers: in each quarter
 /// the parameter t goes from 0 to 1, and (1 − t², 2t) / (1 + t²) is on the circle of radius 1.
-fn ring(random: &mut Random, limit: i64, count: usize) -> Vec<Point> {
+pub fn ring(random: &mut Random, limit: i64, count: usize) -> Vec<Point> {
     let (x, y, radius) = (random.within(0, limit), random.within(0, limit), random.within(1, limit));
     let count = count as i64;
     let mut points: Vec<Point> = (0..count)

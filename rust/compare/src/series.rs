@@ -6,12 +6,14 @@
 //! copies of the tile, so that the series stays what it is: calls that may be refused ([`damage`]), and contours taken out that are not in. Then
 //! there are tiles that no series leaves, of any record and with entries up to the limit.
 //!
-//! The tile is one alone, or one of a sheet that keeps its place from the first call to the last.
+//! The tile is one alone, or one of a sheet that keeps its place from the first call to the last. There are series of straight contours alone, and
+//! series in which these and contours with curved edges are put into one tile.
 use crate::calls::{self, Correcting, Difference, Ground, Tile};
+use crate::curves::{self, Curved};
 use crate::outlines::{self, Outline, FEWEST_POINTS, MOST_EDGES, SIDES};
 use crate::random::Random;
 use crate::{damage, demand3, grouped, on_all_processors, placements, sheets, Tally, ANSWERS};
-use reference::{Correction, Placement, Rules, Spec};
+use reference::{Correction, Curves, Placement, Rules, Spec};
 use std::fmt::{Display, Formatter};
 use std::ops::Range;
 
@@ -37,6 +39,10 @@ pub struct Seen {
     pub taken_under: [u64; 4],
     /// contours that were taken out under another placement than they came in
     pub under_another: u64,
+    /// contours with marks that were put in and taken out in series
+    pub marked: [u64; 2],
+    /// contours that were put in with marks and taken out without them, as their chords; and those put in without and taken out with marks of 0
+    pub marked_otherwise: [u64; 2],
     /// contours with the most points that were put in or taken out
     pub longest: u64,
     /// contours that are not in and were taken out all the same
@@ -70,6 +76,8 @@ impl Tally for Seen {
         add(&mut self.put_under, other.put_under);
         add(&mut self.taken_under, other.taken_under);
         self.under_another += other.under_another;
+        add(&mut self.marked, other.marked);
+        add(&mut self.marked_otherwise, other.marked_otherwise);
         self.longest += other.longest;
         self.not_in += other.not_in;
         self.full += other.full;
@@ -129,15 +137,26 @@ impl Display for Seen {
     }
 }
 
-/// A contour that is in a tile: its points as placed, and the placement under which it came.
+/// A contour that is in a tile: its points as placed, its marks if it came with them, and the placement under which it came.
 struct Contour {
     points: Vec<i64>,
+    marks: Option<Vec<u8>>,
     placement: Placement,
+}
+
+impl Contour {
+    /// The contour with marks, which are 0 where it came without.
+    fn marked(&self, side: u32) -> Curved {
+        let (points, marks) = (self.points.clone(), self.marks.clone().unwrap_or(vec![0; self.points.len() / 2]));
+        Curved { outline: Outline { side, points, counts: vec![marks.len() as u32] }, marks }
+    }
 }
 
 /// A tile whose contours are known.
 struct Known {
     ground: Ground,
+    /// whether contours with curved edges come among the others
+    mixed: bool,
     tile: Tile,
     /// the same tile, in the library's own type
     owned: mattuliyan::Tile,
@@ -154,13 +173,18 @@ pub fn run_on_sheets(seed: u64, numbers: Range<u64>) -> Result<Seen, (u64, Diffe
     on_all_processors(numbers, |number, seen| series_on_sheet(&Spec, seed, number, seen))
 }
 
+/// The series of these numbers with curves, on tiles alone and on tiles of sheets, likewise.
+pub fn run_with_curves(seed: u64, numbers: Range<u64>) -> Result<Seen, (u64, Difference)> {
+    on_all_processors(numbers, |number, seen| series_with_curves(&Spec, seed, number, seen))
+}
+
 /// One series of a run, and calls on a tile that no series need leave.
 pub fn series(rules: &dyn Rules, seed: u64, number: u64, seen: &mut Seen) -> Result<(), Difference> {
     let random = &mut Random::of_case(seed, number);
     let ground = Ground::Tile(SIDES[(number % SIDES.len() as u64) as usize]);
     let large = (number / SIDES.len() as u64).is_multiple_of(LARGE_ONE_IN);
-    from_tile_to_tile(rules, random, ground, large, seen)?;
-    on_any_tile(rules, random, ground, seen)
+    from_tile_to_tile(rules, random, ground, large, false, seen)?;
+    on_any_tile(rules, random, ground, false, seen)
 }
 
 /// The same, on a tile of a sheet.
@@ -169,8 +193,17 @@ pub fn series_on_sheet(rules: &dyn Rules, seed: u64, number: u64, seen: &mut See
     let (sheet, side) = sheets::PAIRS[(number % sheets::PAIRS.len() as u64) as usize];
     let ground = Ground::Sheet(sheets::any_tile(random, sheet, side));
     let large = (number / sheets::PAIRS.len() as u64).is_multiple_of(LARGE_ONE_IN);
-    from_tile_to_tile(rules, random, ground, large, seen)?;
-    on_any_tile(rules, random, ground, seen)
+    from_tile_to_tile(rules, random, ground, large, false, seen)?;
+    on_any_tile(rules, random, ground, false, seen)
+}
+
+/// The same with curves, on tiles alone and on tiles of sheets in turn.
+pub fn series_with_curves(rules: &dyn Rules, seed: u64, number: u64, seen: &mut Seen) -> Result<(), Difference> {
+    let random = &mut Random::of_case(seed, number);
+    let ground = curves::ground(random, number);
+    let large = (number / curves::GROUNDS).is_multiple_of(LARGE_ONE_IN);
+    from_tile_to_tile(rules, random, ground, large, true, seen)?;
+    on_any_tile(rules, random, ground, true, seen)
 }
 
 /// A series from its beginning to its end, where the tile is held to what building what remains leaves.
@@ -179,9 +212,10 @@ fn from_tile_to_tile(
     random: &mut Random,
     ground: Ground,
     large: bool,
+    mixed: bool,
     seen: &mut Seen,
 ) -> Result<(), Difference> {
-    let mut known = begin(rules, random, ground, large, seen)?;
+    let mut known = begin(rules, random, ground, large, mixed, seen)?;
     let mut full = false;
     // with large contours the tile is soon full, and then empty
     let steps = if large { random.within(3, 6) } else { random.within(3, 16) };
@@ -216,6 +250,7 @@ fn begin(
     random: &mut Random,
     ground: Ground,
     large: bool,
+    mixed: bool,
     seen: &mut Seen,
 ) -> Result<Known, Difference> {
     let entries = (ground.side() * ground.side()) as usize;
@@ -229,7 +264,10 @@ fn begin(
         let owned = empty.map_err(|refusal| Difference(format!("an empty tile: {refusal}")))?;
         let tile = Tile { record: 0, table: vec![0; entries] };
         calls::same_owned(&owned, ground, &tile)?;
-        return Ok(Known { ground, tile, owned, contours: Vec::new() });
+        return Ok(Known { ground, mixed, tile, owned, contours: Vec::new() });
+    }
+    if mixed {
+        return begin_with_curves(rules, random, ground, large, way == 2);
     }
     let outline = outlines::outline(random, ground.reach(), large);
     let held = damage::any_table(random, entries);
@@ -259,10 +297,78 @@ fn begin(
         .iter()
         .map(|&count| {
             let rest = placed.split_off(2 * count as usize);
-            Contour { points: std::mem::replace(&mut placed, rest), placement }
+            Contour { points: std::mem::replace(&mut placed, rest), marks: None, placement }
         })
         .collect();
-    Ok(Known { ground, tile, owned, contours })
+    Ok(Known { ground, mixed, tile, owned, contours })
+}
+
+/// What building an outline with curved edges left, from points that are placed if it is to be so.
+fn begin_with_curves(
+    rules: &dyn Rules,
+    random: &mut Random,
+    ground: Ground,
+    large: bool,
+    placed: bool,
+) -> Result<Known, Difference> {
+    let curved = curves::outline(random, ground.reach(), large);
+    let as_it_is = (Placement::None, curved.outline.points.clone());
+    let (placement, points) = if placed { placements::onto_the_tile(random, &curved.outline) } else { as_it_is.clone() };
+    // as placed, it may have more chords than there may be
+    let crowded = curved.placed(placement, &points).chords().edges() > MOST_EDGES;
+    let (placement, points) = if crowded { as_it_is } else { (placement, points) };
+
+    let (counts, marks) = (&curved.outline.counts, &curved.marks);
+    let held = damage::any_table(random, (ground.side() * ground.side()) as usize);
+    let built = calls::build_curves(rules, ground, Curves { points: &points, marks }, counts, placement, &held)?;
+    let (record, table) =
+        built.map_err(|number| Difference(format!("an accepted outline with curves is refused with {number}")))?;
+    let lent = placements::for_library(placement);
+    let owned = mattuliyan::Tile::build_curves(ground.for_library(), &points, counts, marks, lent);
+    let owned = owned.map_err(|refusal| Difference(format!("a tile of an accepted outline: {refusal}")))?;
+    let tile = Tile { record, table };
+    calls::same_owned(&owned, ground, &tile)?;
+
+    let contours = curved.placed(placement, &points).contours().into_iter().map(|contour| {
+        let Curved { outline, marks } = Curved::of(ground.reach(), &[contour]);
+        Contour { points: outline.points, marks: Some(marks), placement }
+    });
+    Ok(Known { ground, mixed: true, tile, owned, contours: contours.collect() })
+}
+
+/// Puts a contour with curved edges in, if there is room for its chords.
+fn put_one_with_curves(
+    rules: &dyn Rules,
+    random: &mut Random,
+    known: &mut Known,
+    large: bool,
+    seen: &mut Seen,
+) -> Result<(), Difference> {
+    let side = known.ground.reach();
+    let curved = match known.contours.len() {
+        // one that is in once more
+        within @ 1.. if random.once_in(8) => known.contours[random.index(within)].marked(side),
+        _ => {
+            let contour = curves::contour(random, side, large);
+            Curved::of(side, &[contour])
+        }
+    };
+    let (placement, points) = placements::onto_the_tile(random, &curved.outline);
+    let placed = curved.placed(placement, &points);
+    let chords = placed.chords().edges();
+    let call = known.call(Correction::PutIn, points, Some(placed.marks.clone()), placement);
+    let room = known.tile.record + chords <= MOST_EDGES;
+    match (known.correct(rules, &call, seen)?, room) {
+        (Ok(()), true) => {
+            seen.corrected[0] += 1;
+            seen.marked[0] += 1;
+            seen.put_under[placements::kind(placement)] += 1;
+            known.contours.push(Contour { points: placed.outline.points, marks: Some(placed.marks), placement });
+            Ok(())
+        }
+        (Err(5), false) => Ok(()),
+        (answer, _) => Err(Difference(format!("putting {chords} chords to {}: {answer:?}", call.tile.record))),
+    }
 }
 
 /// Puts a contour in, if there is room for it.
@@ -273,11 +379,18 @@ fn put_one(
     large: bool,
     seen: &mut Seen,
 ) -> Result<(), Difference> {
+    if known.mixed && random.once_in(2) {
+        return put_one_with_curves(rules, random, known, large, seen);
+    }
     let side = known.ground.reach();
     let (placement, points) = match known.contours.len() {
         // one that is in once more, or backwards, which leaves of it nothing but edges
         within @ 1.. if random.once_in(8) => {
-            let mut points = known.contours[random.index(within)].points.clone();
+            let contour = &known.contours[random.index(within)];
+            let mut points = match contour.marks {
+                Some(_) => contour.marked(side).chords().points,
+                None => contour.points.clone(),
+            };
             if random.once_in(2) {
                 points.reverse();
                 points.chunks_mut(2).for_each(|point| point.swap(0, 1));
@@ -290,7 +403,7 @@ fn put_one(
             placements::onto_the_tile(random, &Outline { side, points, counts: vec![count] })
         }
     };
-    let call = known.call(Correction::PutIn, points, placement);
+    let call = known.call(Correction::PutIn, points, None, placement);
     let count = call.count;
     let room = known.tile.record + count <= MOST_EDGES;
     match (known.correct(rules, &call, seen)?, room) {
@@ -299,7 +412,7 @@ fn put_one(
             seen.put_under[placements::kind(placement)] += 1;
             seen.longest += (count == MOST_EDGES) as u64;
             let points = reference::placed(&Spec, placement, &call.points);
-            known.contours.push(Contour { points, placement });
+            known.contours.push(Contour { points, marks: None, placement });
             Ok(())
         }
         (Err(5), false) => Ok(()),
@@ -309,13 +422,23 @@ fn put_one(
 
 /// Takes out a contour that is in, under a placement that leads to its points.
 fn take_one(rules: &dyn Rules, random: &mut Random, known: &mut Known, seen: &mut Seen) -> Result<(), Difference> {
-    let contour = known.contours.swap_remove(random.index(known.contours.len()));
+    let mut contour = known.contours.swap_remove(random.index(known.contours.len()));
+    // a contour is known by its chords, with marks and without
+    if known.mixed && random.once_in(4) {
+        seen.marked_otherwise[contour.marks.is_none() as usize] += 1;
+        let marked = contour.marked(known.ground.reach());
+        (contour.points, contour.marks) = match contour.marks {
+            Some(_) => (marked.chords().points, None),
+            None => (marked.outline.points, Some(marked.marks)),
+        };
+    }
     let (placement, points) = placements::exactly_onto(random, known.ground.reach(), &contour.points);
-    let call = known.call(Correction::TakeOut, points, placement);
+    let call = known.call(Correction::TakeOut, points, contour.marks, placement);
     if let Err(number) = known.correct(rules, &call, seen)? {
         return Err(Difference(format!("taking out a contour that is in is refused with {number}")));
     }
     seen.corrected[1] += 1;
+    seen.marked[1] += call.marks.is_some() as u64;
     seen.taken_under[placements::kind(placement)] += 1;
     seen.under_another += (placement != contour.placement) as u64;
     seen.longest += (call.count == MOST_EDGES) as u64;
@@ -339,9 +462,15 @@ fn a_count(random: &mut Random, large: bool, record: u32) -> u32 {
 
 impl Known {
     /// A call on this tile.
-    fn call(&self, correction: Correction, points: Vec<i64>, placement: Placement) -> Correcting {
-        let count = points.len() as u32 / 2;
-        Correcting { correction, ground: self.ground, points, count, placement, tile: self.tile.clone() }
+    fn call(
+        &self,
+        correction: Correction,
+        points: Vec<i64>,
+        marks: Option<Vec<u8>>,
+        placement: Placement,
+    ) -> Correcting {
+        let count = marks.as_ref().map_or(points.len() / 2, Vec::len) as u32;
+        Correcting { correction, ground: self.ground, points, marks, count, placement, tile: self.tile.clone() }
     }
 
     /// Makes a call, and keeps the tile that it leaves.
@@ -355,7 +484,7 @@ impl Known {
 
 /// Calls on copies of a tile: one that may be refused, and a contour taken out that is not in.
 fn beside(rules: &dyn Rules, random: &mut Random, known: &Known, seen: &mut Seen) -> Result<(), Difference> {
-    let stranger = a_call(random, known.ground, known.tile.clone());
+    let stranger = a_call(random, known.ground, known.mixed, known.tile.clone());
     let damaged = damage::correcting(random, stranger.clone());
     let stranger = Correcting { correction: Correction::TakeOut, ..stranger };
     for (call, counted) in [(damaged, false), (stranger, true)] {
@@ -363,7 +492,7 @@ fn beside(rules: &dyn Rules, random: &mut Random, known: &Known, seen: &mut Seen
         seen.answer(&call, &answer);
         seen.not_in += (counted && answer.is_ok()) as u64;
         // what a tile of the library's own type can be asked for
-        let whole = call.count as usize == call.points.len() / 2;
+        let whole = call.count as usize == call.marks.as_ref().map_or(call.points.len() / 2, Vec::len);
         if whole && call.ground == known.ground && call.tile == known.tile {
             calls::correct_owned(&mut known.owned.clone(), &call, &answer)?;
         }
@@ -372,12 +501,31 @@ fn beside(rules: &dyn Rules, random: &mut Random, known: &Known, seen: &mut Seen
 }
 
 /// Puts some contour in or takes it out.
-fn a_call(random: &mut Random, ground: Ground, tile: Tile) -> Correcting {
+fn a_call(random: &mut Random, ground: Ground, mixed: bool, tile: Tile) -> Correcting {
+    if mixed && !random.once_in(4) {
+        return a_call_with_curves(random, ground, tile);
+    }
     let (side, count) = (ground.reach(), a_count(random, false, 0));
     let points = outlines::contour(random, side, count);
     let (placement, points) = placements::onto_the_tile(random, &Outline { side, points, counts: vec![count] });
     let correction = random.pick(&[Correction::PutIn, Correction::TakeOut]);
-    Correcting { correction, ground, points, count, placement, tile }
+    Correcting { correction, ground, points, marks: None, count, placement, tile }
+}
+
+/// The same of a contour with curved edges, which may have more chords than there may be.
+fn a_call_with_curves(random: &mut Random, ground: Ground, tile: Tile) -> Correcting {
+    let side = ground.reach();
+    let Curved { outline, marks } = if random.once_in(6) {
+        let nothing = Curved::of(side, &[]);
+        curves::crowded(random, &nothing)
+    } else {
+        let contour = curves::contour(random, side, false);
+        Curved::of(side, &[contour])
+    };
+    let (placement, points) = placements::onto_the_tile(random, &outline);
+    let correction = random.pick(&[Correction::PutIn, Correction::TakeOut]);
+    let count = marks.len() as u32;
+    Correcting { correction, ground, points, marks: Some(marks), count, placement, tile }
 }
 
 /// At the end of a series, the tile is the one that building what remains leaves, in any order and in a table that held anything. The answer is
@@ -387,19 +535,36 @@ fn as_built(rules: &dyn Rules, random: &mut Random, known: &Known) -> Result<Out
     for last in (1..contours.len()).rev() {
         contours.swap(last, random.index(last + 1));
     }
-    let points: Vec<i64> = contours.iter().flat_map(|contour| &contour.points).copied().collect();
-    let counts: Vec<u32> = contours.iter().map(|contour| contour.points.len() as u32 / 2).collect();
+    let side = known.ground.reach();
+    let marked: Vec<Curved> = contours.iter().map(|contour| contour.marked(side)).collect();
+    let remaining = Curved {
+        outline: Outline {
+            side,
+            points: marked.iter().flat_map(|contour| &contour.outline.points).copied().collect(),
+            counts: marked.iter().flat_map(|contour| &contour.outline.counts).copied().collect(),
+        },
+        marks: marked.iter().flat_map(|contour| &contour.marks).copied().collect(),
+    };
+    let chords = remaining.chords();
     let held = damage::any_table(random, known.tile.table.len());
-    let built = calls::build_on(rules, known.ground, &points, &counts, None, &held)?;
-    let (record, table) = built.map_err(|number| Difference(format!("what remains is refused with {number}")))?;
-    if (Tile { record, table }) != known.tile {
-        return Err(Difference(format!(
-            "after the series, the tile is not that of the {} contours in it",
-            counts.len()
-        )));
+    let mut built = vec![calls::build_on(rules, known.ground, &chords.points, &chords.counts, None, &held)?];
+    if known.mixed {
+        let counts = &remaining.outline.counts;
+        let with_marks =
+            calls::build_curves(rules, known.ground, remaining.curves(), counts, Placement::None, &held)?;
+        built.push(with_marks);
+    }
+    for built in built {
+        let (record, table) = built.map_err(|number| Difference(format!("what remains is refused with {number}")))?;
+        if (Tile { record, table }) != known.tile {
+            return Err(Difference(format!(
+                "after the series, the tile is not that of the {} contours in it",
+                chords.counts.len()
+            )));
+        }
     }
     calls::same_owned(&known.owned, known.ground, &known.tile)?;
-    Ok(Outline { side: known.ground.reach(), points, counts })
+    Ok(chords)
 }
 
 /// A tile of the library's own type is drawn as the reference draws its table, at every level; and as near to the ink as an outline is that is
@@ -433,12 +598,18 @@ fn as_drawn(rules: &dyn Rules, random: &mut Random, known: &Known, near: Option<
 
 /// Corrects a tile that no series need leave, with entries up to the limit, and then undoes it, where the record allows that; and makes some calls
 /// that may be refused.
-fn on_any_tile(rules: &dyn Rules, random: &mut Random, ground: Ground, seen: &mut Seen) -> Result<(), Difference> {
+fn on_any_tile(
+    rules: &dyn Rules,
+    random: &mut Random,
+    ground: Ground,
+    mixed: bool,
+    seen: &mut Seen,
+) -> Result<(), Difference> {
     let mut tile = damage::any_tile(random, ground.side(), FEWEST_POINTS);
     for _ in 0..CALLS_ON_ANY_TILE {
-        let mut call = a_call(random, ground, tile.clone());
+        let mut call = a_call(random, ground, mixed, tile.clone());
         if random.once_in(2) {
-            call.tile.record = damage::any_record(random, call.count);
+            call.tile.record = damage::any_record(random, edges_of(&call));
         }
         let answer = calls::correct(rules, &call)?;
         seen.answer(&call, &answer);
@@ -451,6 +622,15 @@ fn on_any_tile(rules: &dyn Rules, random: &mut Random, ground: Ground, seen: &mu
         seen.answer(&damaged, &answer);
     }
     Ok(())
+}
+
+/// How many edges a contour has in the record: its count, or where it has marks its chords.
+fn edges_of(call: &Correcting) -> u32 {
+    call.marks.as_ref().map_or(call.count, |marks| {
+        let placed = reference::placed(&Spec, call.placement, &call.points);
+        let (_, chords) = reference::chords(&Spec, Curves { points: &placed, marks }, &[call.count]);
+        chords.iter().sum()
+    })
 }
 
 /// What was put in is taken out, or what was taken out is put in, under another placement, and the tile is as it was before the call. (A tile that
@@ -469,7 +649,7 @@ fn undo(
         Correction::TakeOut if call.tile.record > MOST_EDGES => (Correction::PutIn, Err(5)),
         Correction::TakeOut => (Correction::PutIn, Ok(&call.tile)),
     };
-    let back = Correcting { correction, points, placement, tile: left, ..*call };
+    let back = Correcting { correction, points, placement, tile: left, ..call.clone() };
     let answer = calls::correct(rules, &back)?;
     seen.answer(&back, &answer);
     seen.undone += answer.is_ok() as u64;

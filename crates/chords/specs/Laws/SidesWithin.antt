@@ -2,7 +2,7 @@
 --
 -- Main results
 --   numbers-split                the numbers of the first marks and those of the others
---   some-numbers                 an edge has at least two
+--   some-numbers, numbers-even   an edge has at least two, and they come in twos
 --   Right P c                    a contour with as many coordinates as its marks say, each of which has the property P
 --   SideWithin P s               a side all of whose coordinates have it
 --   from-within                  the sides from some on
@@ -11,7 +11,7 @@
 use mathlib.Core.Path.{_≡_, refl, sym, _∙_, ap}
 use mathlib.Core.Bool.{Bool, true, false, cond}
 use mathlib.Core.List.{List, [], _∷_}
-use Prim.Native.Nat.{ℕ, zero, suc, _+_, _*_, _<_, _≤_}
+use Prim.Native.Nat.{ℕ, zero, suc, _+_, _*_, _%_, _<_, _≤_}
 use native.Mathlib.Omega.{arith}
 use lib.Dec.{eqb}
 use lib.ListN.{length, take, drop, length-drop}
@@ -36,6 +36,15 @@ at-least false = omega arith
 
 pub some-numbers : (m : ℕ) → 2 ≤ numbersOf m
 some-numbers m = at-least (eqb m 0)
+
+evenly : (b : Bool) → cond b 2 4 % 2 ≡ 0
+evenly true = refl
+evenly false = refl
+
+pub numbers-even : (ms : List ℕ) → numbers ms % 2 ≡ 0
+unfolding tally
+numbers-even [] = refl
+numbers-even (m ∷ ms) = omega (arith, evenly (eqb m 0), numbers-even ms)
 
 module _ (P : ℤ → Type 0) where
   abbrev pub Right : MarkedContour → Type 0

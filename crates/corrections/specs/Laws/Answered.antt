@@ -18,6 +18,7 @@ use Rattle.tile.specs.Laws.FirstNo.{firstNo-zero}
 use Rattle.sheet.specs.declared.Site.{Site}
 use Rattle.sheet.specs.declared.Site.the-variants.{Alone, OnSheet}
 use Rattle.sheet.specs.Sites.{tileSide, reach, SiteYes, siteQuestions}
+use Rattle.sheet.specs.Laws.SiteEdges.{site-answers}
 use Rattle.corrections.specs.declared.Change.{Change}
 use Rattle.corrections.specs.Corrections.{Tile, Call, callOf, question13, question9Twice, alreadyIn, takenOut, wouldLeave, contourQuestions, tileQuestions, correctingQuestions, correctRefusal}
 
@@ -36,10 +37,6 @@ pub record AcceptedCall (k : Call) (t : Tile) : Type 0 where
   pub yes9 : Yes (question9Twice (t .table) (wouldLeave k t))
 
 -- ---- by cases of the site: no two numbers of a list are the same
-site-answers : (site : Site) (table : List ℤ) → All Yes (siteQuestions site table) ↔ (SiteYes site × Yes (question2 (tileSide site) table))
-site-answers (Alone side) table = (λ y. (y .0, y .1 .0), λ h. (h .0, (h .1, tt)))
-site-answers (OnSheet place) table = (λ y. ((y .0, y .1 .0), y .1 .1 .0), λ h. (h .0 .0, (h .0 .1, (h .1, tt))))
-
 contour-zero-at : (change : Change) (site : Site) (points : List ℤ) (count : ℕ) (placement : Placement) (t : Tile)
     → (firstNo (contourQuestions (callOf change site points count placement) t) ≡ 0) ↔ All Yes (contourQuestions (callOf change site points count placement) t)
 contour-zero-at change (Alone side) points count placement t = firstNo-zero (contourQuestions (callOf change (Alone side) points count placement) t) tt

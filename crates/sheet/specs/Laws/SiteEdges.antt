@@ -3,13 +3,16 @@
 -- Main results
 --   site-side                    the tile's side is one of a tile's
 --   reach-power                  the side that question 6 reads is a power of two
+--   reach-le                     and no more than the greatest sheet's
 --   site-zero                    the questions about a site are all answered yes where none is answered no
+--   site-answers                 what that says
 --   site-in-view                 edges within reach are in the tile's view
 --   site-entries                 their table is the sum of what each adds
 --   site-accepted                and can be drawn as promised
 --   entries-with, seen-length    it is the table with the root that the claim speaks of; and there are as many edges
 use mathlib.Core.Path.{_≡_, refl, sym, _∙_, ap, ap₂, fun-ext}
 use mathlib.Core.List.{List, [], _∷_, map}
+use mathlib.Core.Logic.{_↔_}
 use Prim.Native.Nat.{ℕ, _+_, _*_, _-_, _/_, _^_, _<_, _≤_}
 use native.Mathlib.Omega.{arith}
 use native.Mathlib.Nat.{mul-le-mul-right, mul-le-mul-left, le-refl, one-le-pow}
@@ -35,10 +38,10 @@ use Rattle.accuracy.specs.Theorem.{edges-accurate, sheet-accurate}
 use Rattle.accuracy.specs.Laws.SheetTiles.{from-tile-closed, from-tile-length, from-tile-on}
 use Rattle.rasterize.specs.Views.{viewTable, InView}
 use Rattle.rasterize.specs.Laws.EdgesInView.{in-view-alone, in-view-from}
-use Rattle.tile.specs.Questions.{Yes, depthOf, firstNo, question1}
+use Rattle.tile.specs.Questions.{Yes, depthOf, firstNo, question1, question2}
 use Rattle.tile.specs.Outcomes.{tableWith}
 use Rattle.tile.specs.Laws.FirstNo.{firstNo-zero}
-use Rattle.tile.specs.Laws.Sides.{side-power, side-depth}
+use Rattle.tile.specs.Laws.Sides.{side-power, side-depth, side-le}
 use Rattle.tile.specs.Laws.Accepted.{side-width, AcceptedEdges}
 use Rattle.tile.specs.Laws.DrawnArea.{miss-limit-cells}
 use Rattle.sheet.specs.declared.SheetTile.{SheetTile}
@@ -56,6 +59,14 @@ site-side (OnSheet place) y = sheet-tile-side (place .sheet) (place .side) (y .0
 pub reach-power : (site : Site) → SiteYes site → reach site ≡ 2 ^ depthOf (reach site)
 reach-power (Alone side) y = side-power side y
 reach-power (OnSheet place) y = sheet-power (place .sheet) (place .side) (y .0)
+
+pub reach-le : (site : Site) → SiteYes site → reach site ≤ greatestSheetSide
+reach-le (Alone side) y = omega (arith, side-le side y)
+reach-le (OnSheet place) y = sheet-le (place .sheet) (place .side) (y .0)
+
+pub site-answers : (site : Site) (table : List ℤ) → All Yes (siteQuestions site table) ↔ (SiteYes site × Yes (question2 (tileSide site) table))
+site-answers (Alone side) table = (λ y. (y .0, y .1 .0), λ h. (h .0, (h .1, tt)))
+site-answers (OnSheet place) table = (λ y. ((y .0, y .1 .0), y .1 .1 .0), λ h. (h .0 .0, (h .0 .1, (h .1, tt))))
 
 -- where the first "no" of the questions about a site is none, they are all answered yes
 pub site-zero : (site : Site) (table : List ℤ) → firstNo (siteQuestions site table) ≡ 0 → All Yes (siteQuestions site table)

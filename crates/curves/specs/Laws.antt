@@ -1,0 +1,6 @@
+-- How it is proved: one idea a file, in this order.
+
+-- a sum counted down from what it is to be
+pub mod CountingDown
+-- the number of an outline's edges, as far as it is counted
+pub mod CappedChords
