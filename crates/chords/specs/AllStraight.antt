@@ -3,6 +3,7 @@
 -- Main results
 --   straight-contour             of a contour
 --   straight-outline             of an outline
+--   zeros-numbers, zeros-take    two numbers for each mark; the first of marks that are all 0
 use mathlib.Core.Path.{_≡_, refl, sym, _∙_, ap, ap₂}
 use mathlib.Core.List.{List, [], _∷_, _++_}
 use Prim.Native.Nat.{ℕ, zero, suc, _+_, _*_}
@@ -45,12 +46,12 @@ straight-contour n zs e = straight-through n zs (pointAt zs 0) e ∙ same n zs e
     same n (x ∷ y ∷ zs) e = refl
 
 -- ---- contour by contour
-zeros-numbers : (n : ℕ) → numbers (replicate n 0) ≡ 2 * n
+pub zeros-numbers : (n : ℕ) → numbers (replicate n 0) ≡ 2 * n
 unfolding tally
 zeros-numbers zero = refl
 zeros-numbers (suc n) = omega (arith, zeros-numbers n)
 
-zeros-take : (n m : ℕ) → take {A = ℕ} n (replicate (n + m) 0) ≡ replicate n 0
+pub zeros-take : (n m : ℕ) → take {A = ℕ} n (replicate (n + m) 0) ≡ replicate n 0
 zeros-take zero m = refl
 zeros-take (suc n) m = ap (λ k. take {A = ℕ} (suc n) (replicate k 0)) (suc-add n m) ∙ ap (λ l. 0 ∷ l) (zeros-take n m)
 

@@ -6,6 +6,8 @@
 
 -- ---- what the calls answer and leave, and when each number is answered
 pub mod Corrections
+-- the part of it that does not know what kind of contour it is
+pub mod Amending
 pub mod CorrectingRefusals
 -- taking out is the inverse of putting in
 pub mod Inverse

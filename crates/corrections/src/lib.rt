@@ -7,7 +7,11 @@
 ghost use mathlib.Core.Path.{_≡_};
 ghost use Prim.Native.Nat.{_+_, _≤_};
 ghost use Rattle.integers.specs.Units.{mostEdges};
+ghost use Rattle.placement.specs.Placed.{placed};
+ghost use Rattle.chords.specs.Sides.{markedContour};
+ghost use Rattle.chords.specs.Chords.{contourChords};
 ghost use Rattle.corrections.specs.Corrections.{signOf, alreadyIn, takenOut, edgesAfter, tileOf, callOf, putting, taking, puttingOn, takingOn, correctRefusal, corrected};
+ghost use Rattle.corrections.specs.Amending.{Amendable, amendRefusal, amended};
 ghost use Rattle.corrections.specs.Holding.{HoldsOneMore, HoldsOneLess};
 use placement::Placement;
 use sheet::SheetTile;
@@ -17,6 +21,9 @@ use tile::NO_RANGE;
 
 // Question 13: does the record count as many edges as are taken out?
 const NO_RECORD: u32 = 13;
+
+// A contour has at most so many points.
+const MOST_POINTS: usize = 1024;
 
 // What is done with a contour.
 pub enum Change {
@@ -65,7 +72,46 @@ fn edges_after(change: Change, count: u32, edges: u32) -> u32
     }
 }
 
-// Puts a contour in or takes it out.
+// Puts a contour with marks in or takes it out, once the questions about it are answered: those about the record and the range are left. `chords` is how many
+// edges it is drawn as. Contours of points come here too, with every mark 0.
+pub fn amend(
+    site: Site,
+    change: Change,
+    points: &[i64],
+    marks: &[u8],
+    chords: u32,
+    placement: Placement,
+    edges: &mut u32,
+    table: &mut [i64],
+) -> u32
+    requires { ⌜ Amendable site change (now points) (now marks) chords placement (tileOf (now table) (now edges)) ⌝ }
+    ensures { λ r. ⌜ r ≡ amendRefusal site change (contourChords (markedContour (now (marks .entry)) (placed placement (now (points .entry))))) chords (tileOf (now (table .entry)) (now (edges .entry))) ⌝ }
+    ensures { λ _. ⌜ tileOf (now (table .exit)) (now (edges .exit)) ≡ amended site change (contourChords (markedContour (now (marks .entry)) (placed placement (now (points .entry))))) chords (tileOf (now (table .entry)) (now (edges .entry))) ⌝ }
+    ensures { λ _. ⌜ (now (points .exit) ≡ now (points .entry)) × (now (marks .exit) ≡ now (marks .entry)) ⌝ }
+{
+    let recorded = *edges;
+    if taken_out(change, chords) > recorded {
+        return NO_RECORD;
+    }
+    let before = tile::search_entries(table);
+    if !before.within {
+        return NO_RANGE;
+    }
+    let depth = tile::depth_of(sheet::tile_side(site));
+    let view = sheet::view_of(site);
+    let sign = sign_of(change);
+    chords::add_contour(table, points, marks, placement, view, sign, depth);
+    let left = tile::search_entries(table);
+    if !left.within {
+        let back = -sign;
+        chords::add_contour(table, points, marks, placement, view, back, depth);
+        return NO_RANGE;
+    }
+    *edges = edges_after(change, chords, recorded);
+    DONE
+}
+
+// Puts a contour of points in or takes it out. None of its edges is curved.
 fn correct(
     site: Site,
     change: Change,
@@ -79,9 +125,8 @@ fn correct(
     ensures { λ _. ⌜ tileOf (now (table .exit)) (now (edges .exit)) ≡ corrected (callOf change site (now (points .entry)) count placement) (tileOf (now (table .entry)) (now (edges .entry))) ⌝ }
     ensures { λ _. ⌜ now (points .exit) ≡ now (points .entry) ⌝ }
 {
-    let recorded = *edges;
     let counts = [count];
-    let already = already_in(change, recorded);
+    let already = already_in(change, *edges);
     let refusal = sheet::site_refusal(site, table);
     if refusal != DONE {
         return refusal;
@@ -91,25 +136,9 @@ fn correct(
     if number != DONE {
         return number;
     }
-    if taken_out(change, count) > recorded {
-        return NO_RECORD;
-    }
-    let before = tile::search_entries(table);
-    if !before.within {
-        return NO_RANGE;
-    }
-    let depth = tile::depth_of(sheet::tile_side(site));
-    let view = sheet::view_of(site);
-    let sign = sign_of(change);
-    rasterize::add_contour(table, points, placement, view, sign, depth);
-    let left = tile::search_entries(table);
-    if !left.within {
-        let back = -sign;
-        rasterize::add_contour(table, points, placement, view, back, depth);
-        return NO_RANGE;
-    }
-    *edges = edges_after(change, count, recorded);
-    DONE
+    let straight = [0u8; MOST_POINTS];
+    let marks = &straight[..count as usize];
+    amend(site, change, points, marks, count, placement, edges, table)
 }
 
 // ---- a tile alone

@@ -39,7 +39,8 @@ impl Curved {
     /// The outline of these contours.
     pub fn of(side: u32, contours: &[Vec<Piece>]) -> Curved {
         let pieces = || contours.iter().flatten();
-        let numbers = |&(start, control): &Piece| [Some(start), control].into_iter().flatten().flat_map(|(x, y)| [x, y]);
+        let numbers =
+            |&(start, control): &Piece| [Some(start), control].into_iter().flatten().flat_map(|(x, y)| [x, y]);
         let points = pieces().flat_map(numbers).collect();
         let counts = contours.iter().map(|contour| contour.len() as u32).collect();
         let marks = pieces().map(|(_, control)| control.is_some() as u8).collect();
@@ -168,8 +169,9 @@ fn contour_of(random: &mut Random, side: u32, most: u32) -> Vec<Piece> {
 
 /// Three coordinates from 0 to the limit with this second difference, which is at most twice the limit either way.
 fn with_difference(random: &mut Random, limit: i64, difference: i64) -> [i64; 3] {
-    let (least, most) = (difference.max(0), (2 * limit).min(2 * limit + difference));
     // the sum of the ends is as odd as the difference is
+    let odd = difference.rem_euclid(2);
+    let (least, most) = (difference.max(odd), (2 * limit - odd).min(2 * limit + difference));
     let sum = least + 2 * random.within(0, (most - least) / 2);
     let sum = random.pick(&[sum, sum, least, most]);
     let start = random.within((sum - limit).max(0), limit.min(sum));
@@ -412,8 +414,7 @@ pub fn case(rules: &dyn Rules, seed: u64, number: u64, seen: &mut Seen) -> Resul
         let curved = if random.once_in(3) { crowded(random, &curved) } else { curved };
         let damage::Curving { building, marks, placement } = damage::curving(random, ground, &curved);
         let curves = Curves { points: &building.points, marks: &marks };
-        let answer =
-            calls::build_curves(rules, building.ground, curves, &building.counts, placement, &building.table)?;
+        let answer = calls::build_curves(rules, building.ground, curves, &building.counts, placement, &building.table)?;
         seen.drawn.answer(answer);
     }
     Ok(())

@@ -313,7 +313,8 @@ fn begin_with_curves(
 ) -> Result<Known, Difference> {
     let curved = curves::outline(random, ground.reach(), large);
     let as_it_is = (Placement::None, curved.outline.points.clone());
-    let (placement, points) = if placed { placements::onto_the_tile(random, &curved.outline) } else { as_it_is.clone() };
+    let (placement, points) =
+        if placed { placements::onto_the_tile(random, &curved.outline) } else { as_it_is.clone() };
     // as placed, it may have more chords than there may be
     let crowded = curved.placed(placement, &points).chords().edges() > MOST_EDGES;
     let (placement, points) = if crowded { as_it_is } else { (placement, points) };
@@ -550,8 +551,7 @@ fn as_built(rules: &dyn Rules, random: &mut Random, known: &Known) -> Result<Out
     let mut built = vec![calls::build_on(rules, known.ground, &chords.points, &chords.counts, None, &held)?];
     if known.mixed {
         let counts = &remaining.outline.counts;
-        let with_marks =
-            calls::build_curves(rules, known.ground, remaining.curves(), counts, Placement::None, &held)?;
+        let with_marks = calls::build_curves(rules, known.ground, remaining.curves(), counts, Placement::None, &held)?;
         built.push(with_marks);
     }
     for built in built {

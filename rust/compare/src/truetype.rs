@@ -205,17 +205,13 @@ mod tests {
     fn points_between_two_that_are_off() {
         let (on, off) = (true, false);
         // a straight edge, a curve, and two curves with a point between them
-        let points =
-            [((0, 0), on), ((10, 0), on), ((20, 0), off), ((20, 10), on), ((20, 20), off), ((10, 30), off)];
+        let points = [((0, 0), on), ((10, 0), on), ((20, 0), off), ((20, 10), on), ((20, 20), off), ((10, 30), off)];
         let expected =
             [((0, 0), None), ((10, 0), Some((20, 0))), ((20, 10), Some((20, 20))), ((15, 25), Some((10, 30)))];
         assert_eq!(pieces(&points), expected);
         // none that is on: all are between two
         let points = [((0, 0), off), ((10, 0), off), ((10, 10), off)];
-        assert_eq!(
-            pieces(&points),
-            [((5, 5), Some((0, 0))), ((5, 0), Some((10, 0))), ((10, 5), Some((10, 10)))]
-        );
+        assert_eq!(pieces(&points), [((5, 5), Some((0, 0))), ((5, 0), Some((10, 0))), ((10, 5), Some((10, 10)))]);
         // begun with one that is off
         let points = [((20, 0), off), ((20, 10), on), ((0, 10), on), ((10, 0), on)];
         assert_eq!(pieces(&points), [((20, 10), None), ((0, 10), None), ((10, 0), Some((20, 0)))]);

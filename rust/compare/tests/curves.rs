@@ -286,7 +286,7 @@ fn with_faults(correction: Correction, ground: Ground, faults: &[usize]) -> Corr
         match fault {
             2 => call.tile.table.push(7),
             4 => call.count = 1025,
-            16 if faults.len() % 2 == 0 => call.marks.iter_mut().for_each(|marks| marks[2] = 2),
+            16 if faults.len().is_multiple_of(2) => call.marks.iter_mut().for_each(|marks| marks[2] = 2),
             16 => call.marks.iter_mut().for_each(|marks| marks.push(0)),
             3 => call.points.push(0),
             12 => call.placement = Placement::Scale(2.0 + 1.0 / 65_536.0),
@@ -328,7 +328,8 @@ fn every_fault_with_every_other() {
 fn records_about_each_border() {
     let ground = Ground::Tile(2);
     for crowded in [false, true] {
-        for record in (0..=20).chain(1005..=1030).chain([1039, 1040, 1041, 2000, 1 << 16, 1 << 31, u32::MAX - 9, u32::MAX])
+        for record in
+            (0..=20).chain(1005..=1030).chain([1039, 1040, 1041, 2000, 1 << 16, 1 << 31, u32::MAX - 9, u32::MAX])
         {
             let edges = 10;
             for correction in [PutIn, TakeOut] {
@@ -358,7 +359,8 @@ fn a_tile_filled_with_curves() {
             correct_owned(&mut owned, &call, &answer).unwrap();
             answer.map(|left| *tile = left)
         };
-        let letter = |correction, tile: &Tile| Correcting { tile: tile.clone(), ..correcting(correction, ground, false) };
+        let letter =
+            |correction, tile: &Tile| Correcting { tile: tile.clone(), ..correcting(correction, ground, false) };
         for _ in 0..102 {
             assert_eq!(done(letter(PutIn, &tile), &mut tile), Ok(()));
         }

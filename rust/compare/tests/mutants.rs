@@ -2,15 +2,17 @@
 //! drawn wrongly does not pass for near.
 use compare::calls::{Difference, Ground};
 use compare::outlines::Outline;
-use compare::{case, demand3, series, sheets, Seen};
+use compare::{case, curves, demand3, series, sheets, Seen};
 use reference::{Rules, SheetTile, Spec};
 
-/// The seed of `tests/differential.rs`, `tests/series.rs` and `tests/sheets.rs`, whose first cases and first series these are.
+/// The seed of `tests/differential.rs`, `tests/series.rs`, `tests/sheets.rs` and `tests/curves.rs`, whose first cases and first series these are.
 const SEED: u64 = 1;
 const CASES: u64 = 2_000;
 const SERIES: u64 = 500;
 const CASES_ON_SHEETS: u64 = 400;
 const SERIES_ON_SHEETS: u64 = 300;
+const CASES_OF_CURVES: u64 = 80;
+const SERIES_WITH_CURVES: u64 = 120;
 
 fn first_difference(rules: &dyn Rules) -> Option<(u64, Difference)> {
     let mut seen = Seen::default();
@@ -76,6 +78,48 @@ fn wrong_sheets_are_caught() {
     }
     assert!(first_different_on_a_sheet(&Spec).is_none(), "the reference itself differs");
     assert!(first_different_series_on_a_sheet(&Spec).is_none(), "the reference itself differs");
+}
+
+fn first_different_curves(rules: &dyn Rules) -> Option<(u64, Difference)> {
+    let mut seen = curves::Seen::default();
+    let different = |number| curves::case(rules, SEED, number, &mut seen).err().map(|difference| (number, difference));
+    (0..CASES_OF_CURVES).find_map(different)
+}
+
+fn first_different_series_with_curves(rules: &dyn Rules) -> Option<(u64, Difference)> {
+    let mut seen = series::Seen::default();
+    let different = |number| {
+        series::series_with_curves(rules, SEED, number, &mut seen).err().map(|difference| (number, difference))
+    };
+    (0..SERIES_WITH_CURVES).find_map(different)
+}
+
+/// Wrong curves that only corrections can show, for building has no record, no question 9 and no contour that is taken out. All others show in
+/// building, which series do too.
+const OF_CORRECTIONS_ALONE: [&str; 5] = [
+    "question 5 asked after question 13",
+    "question 5 asked after question 9",
+    "question 5 not asked when taking curves out",
+    "question 13 of the edges as marked",
+    "the record counting edges as marked",
+];
+
+#[test]
+fn wrong_curves_are_caught() {
+    let of_curves = reference::wrong::of_curve();
+    assert!(of_curves.len() >= 40);
+    for (name, rules) in of_curves {
+        let in_cases = first_different_curves(&*rules);
+        assert_eq!(in_cases.is_none(), OF_CORRECTIONS_ALONE.contains(&name), "{name}: in {CASES_OF_CURVES} cases");
+        if let Some((number, difference)) = in_cases {
+            println!("mutants: {name}: caught in case {number} of curves: {difference}");
+        }
+        let (number, difference) = first_different_series_with_curves(&*rules)
+            .unwrap_or_else(|| panic!("{name}: not caught in {SERIES_WITH_CURVES} series with curves"));
+        println!("mutants: {name}: caught in series {number} with curves: {difference}");
+    }
+    assert!(first_different_curves(&Spec).is_none(), "the reference itself differs");
+    assert!(first_different_series_with_curves(&Spec).is_none(), "the reference itself differs");
 }
 
 /// 01's letter F, its signed area, and its figures and greys of level 1 as they are drawn.

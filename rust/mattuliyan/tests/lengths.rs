@@ -2,8 +2,8 @@
 //! points, marks and tables have one right length each, and what is refused for them is the first of these. On a sheet that has no other tile, calls
 //! are answered as without one; and with a mark of 0 for each edge, as without marks.
 use mattuliyan::{build_by_numbers, build_placed, put, put_by_numbers, take, take_by_numbers, Placement, Refusal};
-use mattuliyan::{build_on_sheet, build_on_sheet_by_numbers, put_on_sheet, put_on_sheet_by_numbers, take_on_sheet};
 use mattuliyan::{build_curves, build_curves_by_numbers, put_curves, put_curves_by_numbers, take_curves};
+use mattuliyan::{build_on_sheet, build_on_sheet_by_numbers, put_on_sheet, put_on_sheet_by_numbers, take_on_sheet};
 use mattuliyan::{take_curves_by_numbers, take_on_sheet_by_numbers, SheetTile, Site};
 
 /// On a tile of 1 pixel, 01's letter C.
@@ -169,7 +169,7 @@ fn marks_and_points_of_every_length() {
             }
         }
     }
-    // a number of marks whose low bits are right, with a count that has them too
+    // a number of marks whose low bits are right
     for marks in [vec![0; 256 + 3], vec![0; (1 << 16) + 3]] {
         let built = build_curves(Site::Alone(1), &[5; 6], &[3], &marks, Placement::None, &mut [7]);
         assert_eq!(built.map_err(Refusal::number), Err(16));

@@ -418,8 +418,7 @@ fn random_calls_tell_every_variant() {
 /// there.
 #[test]
 fn other_variants_are_answered() {
-    let lists =
-        [wrong::all(), wrong::of_placement(), wrong::of_correction(), wrong::of_magnitude(), wrong::of_sheet()];
+    let lists = [wrong::all(), wrong::of_placement(), wrong::of_correction(), wrong::of_magnitude(), wrong::of_sheet()];
     for (_, rules) in lists.into_iter().flatten() {
         let mut random = Random(72);
         for _ in 0..100 {

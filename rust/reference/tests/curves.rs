@@ -509,7 +509,7 @@ fn with_faults(correction: Correction, site: Site, faults: &[u8]) -> Call {
             15 => call.place.as_mut().unwrap().row = 2,
             2 => call.table.push(7),
             4 => call.count = 1025,
-            16 if faults.len() % 2 == 0 => call.marks.as_mut().unwrap()[1] = 2,
+            16 if faults.len().is_multiple_of(2) => call.marks.as_mut().unwrap()[1] = 2,
             16 => call.marks.as_mut().unwrap().push(0),
             3 => call.points.push(0),
             12 => call.placement = Placement::Scale(2.0 + 1.0 / 65_536.0),
@@ -633,9 +633,8 @@ fn chord_ends_are_the_nearest_steps() {
         for (i, [x, y]) in found.into_iter().enumerate() {
             let (i, x) = (i as i128, i128::from(x));
             // The point, times n × n, by Bernstein's form.
-            let point = (n - i).pow(2) * i128::from(start)
-                + 2 * i * (n - i) * i128::from(control)
-                + i.pow(2) * i128::from(end);
+            let point =
+                (n - i).pow(2) * i128::from(start) + 2 * i * (n - i) * i128::from(control) + i.pow(2) * i128::from(end);
             let twice_off = 2 * (x * n * n - point);
             assert!(-n * n < twice_off && twice_off <= n * n, "{curve:?}, end {i} of {n}: {x}");
             assert_eq!(y, 0);
@@ -756,8 +755,7 @@ fn begun_anywhere_and_either_way() {
         edges.rotate_left(random.below(count as i64) as usize);
         assert_eq!(of_pieces(&edges).built(&Spec, site, Placement::None), Ok((chords, table.clone())));
         // The starts backwards, each with the control point of the edge that ends there.
-        let turned: Vec<_> =
-            (0..count).rev().map(|i| (edges[(i + 1) % count].0.clone(), edges[i].1.clone())).collect();
+        let turned: Vec<_> = (0..count).rev().map(|i| (edges[(i + 1) % count].0.clone(), edges[i].1.clone())).collect();
         let opposite: Vec<i64> = table.iter().map(|entry| -entry).collect();
         assert_eq!(of_pieces(&turned).built(&Spec, site, Placement::None), Ok((chords, opposite)));
         compared += 1;

@@ -3,6 +3,7 @@
 -- Main results
 --   chords-closed                whatever is gained along the edges adds up to 0
 --   chords-on                    the chords of a side with all coordinates on the tile are on it
+--   contour-on                   and so are those of a contour
 --   chords-closed-on             so the edges of an outline are closed edges on the tile
 use mathlib.Core.Path.{_≡_, refl, sym, _∙_, ap, ap₂}
 use mathlib.Core.Bool.{Bool, true, false, cond}
@@ -119,7 +120,7 @@ module _ (depth : ℕ) where
       all-tabulate (EdgeOnTile depth) (2 ^ splitsOf c) (λ i. edgeBetween (chordPoint c i) (chordPoint c (suc i)))
       (λ i h. record { start = chord-on c w i (omega arith); end = chord-on c w (suc i) h })
 
-  contour-on : (c : MarkedContour) → Right (OnSide depth) c → All (EdgeOnTile depth) (contourChords c)
+  pub contour-on : (c : MarkedContour) → Right (OnSide depth) c → All (EdgeOnTile depth) (contourChords c)
   contour-on c h = all-joined chordsOf (EdgeOnTile depth) (sidesOf c) (all-map chords-on (sidesOf c) (contour-within (OnSide depth) c h))
 
   pub chords-closed-on : (cs : List MarkedContour) → All (Right (OnSide depth)) cs → ClosedOnTile depth (outlineChords cs)

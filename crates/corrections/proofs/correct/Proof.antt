@@ -1,39 +1,34 @@
--- A refused call leaves everything as it was, also where the table was changed: that is undone. Else the change stays, and the record with it.
-use mathlib.Core.Path.{_≡_, refl, sym, _∙_, ap, ap₂, subst, subst⁻¹}
-use mathlib.Core.Bool.{Bool, false, _&&_, cond}
+-- The questions about the site and the contour; the rest is done by `amend`, to which a contour of points is one with every mark 0.
+use mathlib.Core.Path.{_≡_, refl, sym, _∙_, ap, ap₂, subst⁻¹}
 use mathlib.Core.Logic.{_≢_}
 use mathlib.Core.List.{List, [], _∷_, _++_}
-use Prim.Native.Nat.{ℕ, _/_, _<_, _≤_}
+use Prim.Native.Nat.{ℕ, _+_, _*_, _-_, _≤_}
 use native.Mathlib.Omega.{arith}
-use lib.ListN.{length, getD}
-use lib.IntN.{ℤ, pos, _-ℤ_, _*ℤ_}
-use mir.Syntax.{w64}
-use mir.Val.{SFits}
-use mir.Facts.{toZ-ofZ}
+use lib.ListN.{length, take, replicate, length-replicate}
+use lib.Seq.{length-take-le}
+use lib.IntN.{ℤ}
 use borrow.Author.Needs.{needs}
-use borrow.Author.Tests.{le-leb, lt-leb, not-true, not-false}
-use Rattle.integers.specs.Bits.{back, result-is}
-use Rattle.integers.specs.Within.{Within}
-use Rattle.integers.specs.ListSum.{All}
+use Rattle.integers.specs.Units.{mostPoints}
+use Rattle.integers.specs.ListSum.{tally}
 use Rattle.edge.specs.declared.Edge.{Edge}
+use Rattle.placement.specs.Placed.{placed}
+use Rattle.placement.specs.Laws.PlacedPoints.{placed-length}
 use Rattle.accuracy.specs.Outline.{contourEdges}
-use Rattle.rasterize.specs.declared.View.{View}
-use Rattle.rasterize.specs.Added.{added}
-use Rattle.rasterize.specs.Ready.{Fits}
-use Rattle.rasterize.specs.Views.{InView}
-use Rattle.rasterize.specs.Laws.Adding.{added-same, added-undone}
-use Rattle.rasterize.specs.Laws.Sums.{edgesPart}
-use Rattle.tile.specs.Questions.{Question, Yes, depthOf, firstNo, question9, outlineQuestions}
-use Rattle.tile.specs.Laws.FirstNo.{firstNo-zero}
-use Rattle.tile.specs.Laws.IfDone.{if-done, if-refused}
+use Rattle.chords.specs.Sides.{numbers, markedContour}
+use Rattle.chords.specs.Chords.{contourChords}
+use Rattle.chords.specs.AllStraight.{straight-contour, zeros-numbers, zeros-take}
+use Rattle.tile.specs.Questions.{Question, Yes, firstNo, outlineQuestions}
+use Rattle.tile.specs.Outcomes.{ifDone}
+use Rattle.tile.specs.Refusals.{question3-means, question4-means}
+use Rattle.tile.specs.Laws.IfDone.{if-refused}
 use Rattle.tile.specs.Laws.Asking.{first-refused, first-passed}
 use Rattle.sheet.specs.declared.Site.{Site}
-use Rattle.sheet.specs.Sites.{tileSide, reach, siteQuestions, viewAt, entriesAt}
-use Rattle.sheet.specs.Laws.SiteEdges.{site-zero, site-entries}
-use Rattle.corrections.specs.Corrections.{Call, Tile, callOf, tileOf, contourOf, part, signOf, question13, question9Twice, alreadyIn, takenOut, wouldLeave, contourQuestions, tileQuestions, correctRefusal, corrected}
+use Rattle.sheet.specs.Sites.{reach, siteQuestions}
+use Rattle.sheet.specs.Laws.SiteEdges.{site-zero}
+use Rattle.corrections.specs.Corrections.{Call, Tile, callOf, tileOf, contourOf, alreadyIn, contourQuestions, tileQuestions, edgesAfter, wouldLeave, correctRefusal, corrected}
+use Rattle.corrections.specs.Amending.{Amendable, amendRefusal, amended}
 use Rattle.corrections.specs.Laws.Answered.{AskedYes, asked-yes, contour-zero}
-use Rattle.corrections.specs.Laws.AskedContour.{sign-within, few-edges, contour-in-view}
-use Rattle.corrections.proofs.Correcting.{fits-contour, fits-again, opposite-fits, back-within}
+use Rattle.corrections.specs.Laws.AskedContour.{few-edges, contour-edge-count}
 use Rattle.corrections.proofs.correct.Statement.{statement}
 use Rattle.corrections.proofs.correct.Tie as tie
 
@@ -106,194 +101,69 @@ module _ (c : tie.Else2) where
       let s = start (c .before) in
       first-passed (about s) (later s) (asked-yes (call s) (given s) .1 yes)
 
--- ---- question 13
-module _ (c : tie.After-taken-out) where
+-- ---- no edge is curved
+module _ (c : tie.Else2) where
   abbrev at : tie.Start
-  at = start (c .before .before)
+  at = start (c .before)
 
-  thirteen : {b : Bool} → question13 (takenOut (at .args .change) (at .args .count)) (given at .edges) .answer ≡ b
-      → correctRefusal (call at) (given at) ≡ cond b (firstNo (question9Twice (given at .table) (wouldLeave (call at) (given at)) ∷ [])) 13
-  thirteen e = passed (c .before) ∙ ap (λ b. cond b (firstNo (question9Twice (given at .table) (wouldLeave (call at) (given at)) ∷ [])) 13) e
+  abbrev n : ℕ
+  n = at .args .count
+
+  abbrev drawn : List ℤ
+  drawn = placed (at .args .placement) (at .args .points .now)
+
+  few-points : n ≤ mostPoints
+  few-points = question4-means (n ∷ []) .0 (yes c .yes4) .0 .1
+
+  -- the marks, as a part of the array of zeros
+  abbrev marks : List ℕ
+  marks = take n (replicate mostPoints 0)
+
+  marks-are : marks ≡ replicate n 0
+  marks-are =
+      let all : mostPoints ≡ n + (mostPoints - n) = omega (arith, few-points) in
+      ap (λ m. take {A = ℕ} n (replicate m 0)) all ∙ zeros-take n (mostPoints - n)
+
+  long : length (at .args .points .now) ≡ 2 * n
+  unfolding tally
+  long = question3-means (at .args .points .now) (n ∷ []) .0 (yes c .yes3) ∙ omega arith
+
+  edges-are : contourChords (markedContour marks drawn) ≡ contourEdges (contourOf (call at))
+  edges-are =
+      ap (λ l. contourChords (markedContour l drawn)) marks-are
+      ∙ straight-contour n drawn (placed-length (at .args .placement) (at .args .points .now) ∙ long)
+
+  amendable : Amendable (site at) (at .args .change) (at .args .points .now) marks n (at .args .placement) (given at)
+  amendable =
+      let y = yes c in
+      record {
+        site-yes = y .site;
+        yes2 = y .yes2;
+        points-length = long ∙ sym (ap numbers marks-are ∙ zeros-numbers n);
+        yes12 = y .yes12;
+        yes6 = y .yes6;
+        counted = sym (ap length edges-are ∙ contour-edge-count (call at) (given at) y);
+        few = few-edges (call at) (given at) y;
+      }
+
+array-share-prefix-straight : tie.Need-array-share-prefix-straight
+array-share-prefix-straight c = few-points c
+
+slice-aggregate-marks : tie.Need-slice-aggregate-marks
+slice-aggregate-marks c = sym (length-take-le _ _ (omega (arith, few-points (c .before), length-replicate {A = ℕ} mostPoints 0)))
+
+amend-requires : tie.Need-amend-requires
+amend-requires c κs = amendable (c .before .before .before)
 
 returns-3 : tie.Need-returns-3
 returns-3 c =
-    let t = c .before in
-    let s = at t in
-    let number = sym (thirteen t (lt-leb _ _ (subst (λ n. given s .edges < n) (t .taken-out .ensures) (c .if3 .taken)))) in
-    (number, (kept s number (λ z. absurd (omega (arith, z))), refl))
-
-counted : (c : tie.Else3) → (let s = at (c .before) in takenOut (s .args .change) (s .args .count) ≤ given s .edges)
-counted c = subst (λ n. n ≤ given (at (c .before)) .edges) (c .before .taken-out .ensures) (c .if3 .left)
-
--- ---- question 9
-module _ (c : tie.After-search-entries) where
-  abbrev before-search : tie.Else3
-  before-search = c .before .before
-
-  abbrev from : tie.Start
-  from = at (before-search .before)
-
-  nine : {b : Bool} → question9Twice (given from .table) (wouldLeave (call from) (given from)) .answer ≡ b
-      → correctRefusal (call from) (given from) ≡ cond b 0 9
-  nine e = thirteen (before-search .before) (le-leb _ _ (counted before-search)) ∙ ap (λ b. cond b 0 9) e
-
-returns-4 : tie.Need-returns-4
-returns-4 c =
-    let f = c .before .before in
-    let s = from f in
-    let out : question9 (given s .table) .answer ≡ false = sym (f .search-entries .ensures .0) ∙ not-true _ (c .if4 .taken) in
-    let number = sym (nine f (ap (λ b. b && question9 (wouldLeave (call s) (given s)) .answer) out)) in
-    (number, (kept s number (λ z. absurd (omega (arith, z))), refl))
-
--- ---- the change is made
-module _ (c : tie.Else4) where
-  abbrev searched : tie.After-search-entries
-  searched = c .before .before
-
-  abbrev origin : tie.Start
-  origin = from searched
-
-  in-range : Yes (question9 (given origin .table))
-  in-range = sym (searched .search-entries .ensures .0) ∙ not-false _ (c .if4 .left)
-
-  answers : AskedYes (call origin) (given origin)
-  answers = yes (before-search searched .before .before)
-
-view-of-requires : tie.Need-view-of-requires
-view-of-requires c κs = answers (c .before .before) .site
-
--- the tile's depth, its view and the sign
-module _ (c : tie.After-sign-of) where
-  abbrev ranged : tie.Else4
-  ranged = c .before .before .before .before
-
-  abbrev s : tie.Start
-  s = origin ranged
-
-  abbrev depth : ℕ
-  depth = depthOf (tileSide (site s))
-
-  abbrev edges : List Edge
-  edges = contourEdges (contourOf (call s))
-
-  depth-is : c .before .before .depth-of .result ≡ depth
-  depth-is = c .before .before .depth-of .ensures ∙ ap depthOf (c .before .before .before .tile-side .ensures)
-
-  view-is : c .before .view-of .result ≡ viewAt (site s)
-  view-is = c .before .view-of .ensures
-
-  sign-is : back (c .sign-of .result) ≡ signOf (s .args .change)
-  sign-is = result-is (c .sign-of .ok) (c .sign-of .ensures)
-
-  in-view : All (InView (c .before .view-of .result) (c .before .before .depth-of .result)) edges
-  in-view =
-      subst⁻¹ (λ v. All (InView v (c .before .before .depth-of .result)) edges) view-is
-      (subst⁻¹ (λ n. All (InView (viewAt (site s)) n) edges) depth-is (contour-in-view (call s) (given s) (answers ranged)))
-
-  -- what an addition leaves, in the words of the definitions
-  as-said : (t : List ℤ) {z y : ℤ} → z ≡ y
-      → added t (edgesPart (c .before .view-of .result) (c .before .before .depth-of .result) z edges) ≡ added t (edgesPart (viewAt (site s)) depth y edges)
-  as-said t {z} {y} e =
-      ap₂ (λ (v : View) n. added t (edgesPart v n z edges)) view-is depth-is ∙ ap (λ z. added t (edgesPart (viewAt (site s)) depth z edges)) e
-
-  -- the contour's values are what its edges add
-  values : (t : List ℤ) (z : ℤ) → added t (edgesPart (viewAt (site s)) depth z edges) ≡ added t (λ i. z *ℤ part (site s) (contourOf (call s)) i)
-  values t z =
-      added-same t (edgesPart (viewAt (site s)) depth z edges) (λ i. z *ℤ part (site s) (contourOf (call s)) i)
-      (λ i h. ap (λ (l : List ℤ). z *ℤ getD l i (pos 0)) (site-entries (site s) edges))
-
-add-contour-requires : tie.Need-add-contour-requires
-add-contour-requires c κs =
-    let d = c .before in
-    let t = s d in (
-      subst⁻¹ (λ k. Fits (given t .table) k (length (call t .points) / 2)) (depth-is d) (fits-contour (call t) (given t) (answers (ranged d)) (in-range (ranged d))),
-      in-view d,
-      subst⁻¹ (Within (pos 1)) (sign-is d) (sign-within (t .args .change)),
-      answers (ranged d) .yes12,
-    )
-
-module _ (c : tie.After-add-contour) where
-  abbrev signed : tie.After-sign-of
-  signed = c .before .before
-
-  abbrev o : tie.Start
-  o = s signed
-
-  edges-added : c .add-contour .last .0 ≡ added (given o .table) (edgesPart (viewAt (site o)) (depth signed) (signOf (o .args .change)) (edges signed))
-  edges-added = c .add-contour .ensures ∙ as-said signed (given o .table) (sign-is signed)
-
-  added-is : c .add-contour .last .0 ≡ wouldLeave (call o) (given o)
-  added-is = edges-added ∙ values signed (given o .table) (signOf (o .args .change))
-
-  -- the table that is left decides
-  number-is : {b : Bool} → question9 (c .add-contour .last .0) .answer ≡ b → correctRefusal (call o) (given o) ≡ cond b 0 9
-  number-is e = nine (searched (ranged signed)) (ap₂ _&&_ (in-range (ranged signed)) (sym (ap (λ l. question9 l .answer) added-is) ∙ e))
-
-  back-fits : SFits w64 (pos 0 -ℤ back (signed .sign-of .result))
-  back-fits = subst⁻¹ (λ z. SFits w64 (pos 0 -ℤ z)) (sign-is signed) (opposite-fits (o .args .change))
-
-  back-is : back (pos 0 -ℤ back (signed .sign-of .result)) ≡ pos 0 -ℤ signOf (o .args .change)
-  back-is = toZ-ofZ back-fits ∙ ap (λ z. pos 0 -ℤ z) (sign-is signed)
-
--- ---- it is undone where the table is then out of range
-module _ (c : tie.Then5) where
-  abbrev found : tie.After-search-entries2
-  found = c .before .before
-
-  abbrev there : tie.After-add-contour
-  there = found .before .before .before
-
-sub-back : tie.Need-sub-back
-sub-back c = back-fits (there c)
-
-add-contour-requires-2 : tie.Need-add-contour-requires-2
-add-contour-requires-2 c κs =
-    let a = there (c .before) in
-    let d = signed a in
-    let t = o a in
-    let sign = subst⁻¹ (Within (pos 1)) (sign-is d) (sign-within (t .args .change)) in
-    let opposite = subst⁻¹ (Within (pos 1)) (back-is a) (back-within (t .args .change)) in (
-      subst⁻¹ (λ k. Fits (a .add-contour .last .0) k (length (call t .points) / 2)) (depth-is d)
-          (subst⁻¹ (λ l. Fits l (depth d) (length (call t .points) / 2)) (edges-added a)
-          (fits-again (call t) (given t) (answers (ranged d)) (in-range (ranged d)))),
-      in-view d,
-      search (sign, opposite),
-      answers (ranged d) .yes12,
-    )
-
-returns-5 : tie.Need-returns-5
-returns-5 c =
-    let twice = c .before in
-    let f = twice .before .before in
-    let a = there f in
-    let d = signed a in
-    let t = o a in
-    let number = sym (number-is a (sym (found f .search-entries2 .ensures .0) ∙ not-true _ (f .if5 .taken))) in
-    let minus = pos 0 -ℤ signOf (t .args .change) in
-    let restored : twice .add-contour2 .last .0 ≡ given t .table =
-    twice .add-contour2 .ensures
-    ∙ as-said d (a .add-contour .last .0) (back-is a)
-    ∙ values d (a .add-contour .last .0) minus
-    ∙ ap (λ l. added l (λ i. minus *ℤ part (site t) (contourOf (call t)) i)) (added-is a)
-    ∙ added-undone (given t .table) (signOf (t .args .change)) (part (site t) (contourOf (call t))) in
-    (number, (ap (λ l. tileOf l (given t .edges)) restored ∙ kept t number (λ z. absurd (omega (arith, z))), refl))
-
--- ---- and else it is counted
-edges-after-requires : tie.Need-edges-after-requires
-edges-after-requires c κs =
-    let a = c .before .before .before .before .before in
-    let d = signed a in
-    let t = o a in
-    (few-edges (call t) (given t) (answers (ranged d)), counted (before-search (searched (ranged d))))
-
-returns-6 : tie.Need-returns-6
-returns-6 c =
-    let e = c .before in
-    let f = e .before .before in
-    let a = f .before .before .before in
-    let t = o a in
-    let number = number-is a (sym (f .search-entries2 .ensures .0) ∙ not-false _ (e .if5 .left)) in
-    (sym number, (ap₂ tileOf (added-is a) (c .edges-after .ensures) ∙ sym (if-done _ (given t) number), refl))
+    let a = c .before in
+    let e = a .before .before .before .before in
+    let t = at e in
+    let asked = ap (λ (es : List Edge). amendRefusal (site t) (t .args .change) es (n e) (given t)) (edges-are e) ∙ sym (passed e) in
+    let left = ap (λ (es : List Edge). amended (site t) (t .args .change) es (n e) (given t)) (edges-are e)
+    ∙ ap (λ m. ifDone m (tileOf (wouldLeave (call t) (given t)) (edgesAfter (t .args .change) (n e) (given t .edges))) (given t)) (sym (passed e)) in
+    (a .amend .ensures .0 ∙ asked, (a .amend .ensures .1 .0 ∙ left, refl))
 
 pub correct-spec : {M : Type 1} → statement M
 correct-spec =
@@ -308,22 +178,8 @@ correct-spec =
     (λ c κs. search needs)
     (λ c. search needs)
     returns-2
-    (λ c κs. search needs)
+    array-share-prefix-straight
+    slice-aggregate-marks
+    amend-requires
     (λ c. search needs)
-    returns-3
-    (λ c κs. search needs)
-    (λ c. search needs)
-    returns-4
-    (λ c κs. search needs)
-    (λ c κs. search needs)
-    view-of-requires
-    (λ c κs. search needs)
-    add-contour-requires
-    (λ c κs. search needs)
-    sub-back
-    add-contour-requires-2
-    (λ c. search needs)
-    returns-5
-    edges-after-requires
-    (λ c. search needs)
-    returns-6)
+    returns-3)
