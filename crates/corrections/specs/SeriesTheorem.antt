@@ -37,7 +37,8 @@ use Rattle.corrections.specs.Holding.{emptyTile, HoldsContours}
 use Rattle.corrections.specs.Series.{run, corrections, IsAlone, OneSite, Series}
 use Rattle.corrections.specs.Laws.Accepted.{site-built}
 use Rattle.corrections.specs.Laws.AddingUp.{adds-up-none}
-use Rattle.corrections.specs.Laws.Held.{cellsAt, reordered, holds-of-sums, sums-of-built, sums-of-holds}
+use Rattle.corrections.specs.Laws.Held.{reordered, holds-of-sums, sums-of-built, sums-of-holds}
+use Rattle.corrections.specs.Laws.Parts.{cellsAt}
 use Rattle.corrections.specs.Laws.Kept.{holds-put, holds-taken, same-side}
 use Rattle.corrections.specs.Laws.Runs.{Keeps, run-keeps}
 

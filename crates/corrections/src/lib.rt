@@ -42,7 +42,7 @@ fn sign_of(change: Change) -> i64
 }
 
 // How many edges question 5 counts beside its own: for putting in those that the record has.
-fn already_in(change: Change, edges: u32) -> u32
+pub fn already_in(change: Change, edges: u32) -> u32
     ensures { λ r. ⌜ r ≡ alreadyIn change edges ⌝ }
 {
     match change {

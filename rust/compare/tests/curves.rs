@@ -106,19 +106,20 @@ fn letters_of_fonts() {
         return;
     }
     let mut seen = curves::Seen::default();
-    let (mut letters, mut passed_over, mut number) = (0u64, 0u64, 0);
+    let (mut read, mut letters, mut passed_over, mut number) = (0u64, 0u64, 0u64, 0);
     for path in &fonts {
         let bytes = std::fs::read(path).unwrap_or_else(|error| panic!("{}: {error}", path.display()));
         let Some(font) = Font::read(bytes) else {
             println!("fonts: {} has no outlines of this kind", path.display());
             continue;
         };
-        // each font has its own of the characters, so that all come with all grounds in the long run
-        for character in CHARACTERS.chars().skip(number as usize % 2).step_by(2) {
+        read += 1;
+        for character in CHARACTERS.chars() {
             let Some(contours) = font.glyph_of(character).and_then(|glyph| font.contours(glyph)) else {
                 passed_over += 1;
                 continue;
             };
+            // one ground after the other, so that a character comes with many of them
             let random = &mut Random::of_case(SEED, number);
             let ground = curves::ground(random, number);
             let curved = letter(random, ground.reach(), &contours);
@@ -132,7 +133,7 @@ fn letters_of_fonts() {
     println!(
         "fonts: {} letters of {} fonts, {} with too many chords, {} chords; {} characters that no simple glyph stands for; {} cells; {} calls",
         grouped(letters),
-        fonts.len(),
+        grouped(read),
         grouped(seen.placed_crowded),
         grouped(seen.drawn.edges),
         grouped(passed_over),
@@ -140,7 +141,7 @@ fn letters_of_fonts() {
         grouped(seen.drawn.calls)
     );
     assert_eq!(seen.as_chords + seen.placed_crowded, letters);
-    assert!(letters > 0, "no font has a simple glyph for any of these characters");
+    assert!(letters >= read, "of {read} fonts that were read, only {letters} letters were compared");
 }
 
 fn at(sheet: u32, side: u32, column: u32, row: u32) -> SheetTile {

@@ -15,13 +15,11 @@ use mathlib.Core.Bool.{true}
 use mathlib.Core.List.{List, [], _∷_}
 use Prim.Native.Nat.{ℕ, _+_, _*_, _/_, _≤_}
 use native.Mathlib.Omega.{arith}
-use native.Mathlib.Nat.{mul-le-mul-right}
-use lib.ListN.{length, getD}
+use lib.ListN.{length}
 use lib.IntN.{ℤ, pos, _-ℤ_, _*ℤ_}
 use lib.Signed.{leZ-yes}
-use Rattle.integers.specs.Units.{mostEdges, builtEntryLimit, detailLimit}
-use Rattle.integers.specs.Order.{pos-≤ℤ}
-use Rattle.integers.specs.Within.{Within, within-is, within-le}
+use Rattle.integers.specs.Units.{mostEdges, builtEntryLimit}
+use Rattle.integers.specs.Within.{Within}
 use Rattle.integers.specs.ListSum.{All, tally}
 use Rattle.integers.specs.Tests.{and-true-means, leb-means}
 use Rattle.placement.specs.Placed.{placed}
@@ -30,20 +28,19 @@ use Rattle.accuracy.specs.Outline.{edgeCount, contourEdges}
 use Rattle.accuracy.specs.Laws.Contours.{contourEdges-length, contour-on-tile}
 use Rattle.accuracy.specs.Laws.Coordinates.{pointsOf-length, points-on}
 use Rattle.rasterize.specs.Views.{InView}
-use Rattle.rasterize.specs.Laws.Spare.{signed-within}
-use Rattle.rasterize.specs.Laws.Sums.{outline-entry-within}
 use Rattle.tile.specs.Questions.{Yes, depthOf, question3, question4, question6}
 use Rattle.tile.specs.Refusals.{question3-means}
 use Rattle.tile.specs.Written.{coordinatesOf}
 use Rattle.tile.specs.Laws.Accepted.{on-side}
 use Rattle.tile.specs.Laws.Written.{points-back}
 use Rattle.sheet.specs.Sites.{tileSide, reach, viewAt}
-use Rattle.sheet.specs.Laws.SiteEdges.{reach-power, site-in-view, site-entries}
+use Rattle.sheet.specs.Laws.SiteEdges.{reach-power, site-in-view}
 use Rattle.corrections.specs.declared.Change.{Change}
 use Rattle.corrections.specs.declared.Change.the-variants.{Put, Take}
 use Rattle.corrections.specs.Corrections.{Tile, Call, contourOf, part, signOf, alreadyIn}
 use Rattle.corrections.specs.Laws.Answered.{AskedYes}
 use Rattle.corrections.specs.Laws.Accepted.{isContour}
+use Rattle.corrections.specs.Laws.Parts.{values-within}
 
 pub sign-within : (x : Change) → Within (pos 1) (signOf x)
 sign-within Put = record { low = leZ-yes tt; high = leZ-yes tt }
@@ -100,7 +97,4 @@ module _ (k : Call) (t : Tile) (yes : AskedYes k t) where
 
   pub part-within : (i : ℕ) → Within (pos builtEntryLimit) (signOf (k .change) *ℤ part (k .site) (contourOf k) i)
   part-within i =
-      let few : length (contourEdges (contourOf k)) ≤ mostEdges = omega (arith, contour-edge-count, few-edges) in
-      signed-within (sign-within (k .change))
-      (within-is refl (ap (λ l. getD l i (pos 0)) (site-entries (k .site) (contourEdges (contourOf k))))
-      (within-le (pos-≤ℤ (mul-le-mul-right detailLimit few)) (outline-entry-within (viewAt (k .site)) depth (contourEdges (contourOf k)) contour-in-view i)))
+      values-within (k .site) (contourEdges (contourOf k)) (sign-within (k .change)) contour-in-view (omega (arith, contour-edge-count, few-edges)) i

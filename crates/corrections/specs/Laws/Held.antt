@@ -6,51 +6,44 @@
 --   reordered                    in any order
 --   holds-of-sums, sums-of-holds it is what `HoldsContours` says
 --   sums-of-built                and what one accepted building leaves
---   cellsAt site                 how many entries the table has
 --   sums-length                  it has them
 --   sums-within, sums-in-range   the table's entries are at most what the most edges add, and so in question 9's range
-use mathlib.Core.Path.{_≡_, sym, _∙_, ap, ap₂, subst, subst⁻¹}
+use mathlib.Core.Path.{_≡_, refl, sym, _∙_, ap, ap₂, subst, subst⁻¹}
 use mathlib.Core.Bool.{true}
-use mathlib.Core.List.{List, [], _∷_, Perm, Perm·refl}
+use mathlib.Core.List.{List, [], _∷_, _++_, Perm, Perm·refl}
 use Prim.Native.Nat.{ℕ, _*_, _≤_}
 use native.Mathlib.Omega.{arith}
 use lib.Dec.{lit≤}
 use lib.ListN.{length, getD, replicate, length-replicate}
-use lib.IntN.{ℤ, pos, _+ℤ_, _*ℤ_}
+use lib.IntN.{ℤ, pos}
 use Rattle.integers.specs.Units.{mostEdges, entryLimit, builtEntryLimit}
 use Rattle.integers.specs.Order.{pos-≤ℤ}
 use Rattle.integers.specs.Within.{Within, within-le}
-use Rattle.integers.specs.Ring.{read, ring}
-use Rattle.integers.specs.ListSum.{total, tally, tally-perm}
+use Rattle.integers.specs.ListSum.{total, tally, tally-perm, joined}
 use Rattle.integers.specs.Tests.{every}
 use Rattle.integers.specs.Every.{every-perm}
 use Rattle.accuracy.specs.Outline.{edgeCount, contourEdges, outlineEdges}
 use Rattle.accuracy.specs.Laws.Contours.{outlineEdges-length}
 use Rattle.accuracy.specs.Laws.Denominator.{denominator-pos}
-use Rattle.rasterize.specs.Added.{added, entryOf}
-use Rattle.rasterize.specs.Views.{viewTable}
-use Rattle.rasterize.specs.Laws.Adding.{added-length, added-same, added-zeros}
-use Rattle.rasterize.specs.Laws.Sums.{entryOf-append, entryOf-total}
-use Rattle.tile.specs.Questions.{Yes, depthOf, question9}
+use Rattle.rasterize.specs.Added.{added}
+use Rattle.rasterize.specs.Laws.Adding.{added-length}
+use Rattle.tile.specs.Questions.{Yes, question9}
 use Rattle.tile.specs.Refusals.{question2-means}
 use Rattle.tile.specs.Faithful.{Drawn, FaithfulTo}
 use Rattle.tile.specs.Theorem.{table-drawn}
 use Rattle.tile.specs.Written.{Contour, coordinates, countsOf}
-use Rattle.tile.specs.Laws.Sides.{side-cells}
 use Rattle.tile.specs.Laws.Answers.{in-range-entries}
 use Rattle.tile.specs.Laws.Accepted.{AcceptedEdges}
 use Rattle.tile.specs.Laws.BuiltTable.{table-within}
 use Rattle.tile.specs.Laws.Written.{contours-back, contours-edges}
 use Rattle.sheet.specs.declared.Site.{Site}
-use Rattle.sheet.specs.Sites.{tileSide, reach, SiteYes, viewAt, seenAt, rootRule, rootAt, twiceLimitAt, entriesAt, siteResult, siteTable}
-use Rattle.sheet.specs.Laws.SiteEdges.{site-side, site-entries, site-accepted, entries-with, seen-length}
+use Rattle.sheet.specs.Sites.{tileSide, reach, SiteYes, seenAt, rootRule, rootAt, twiceLimitAt, entriesAt, siteResult, siteTable}
+use Rattle.sheet.specs.Laws.SiteEdges.{site-accepted, entries-with, seen-length}
 use Rattle.corrections.specs.Corrections.{Tile, part}
 use Rattle.corrections.specs.Holding.{builtAs, HoldsContours}
 use Rattle.corrections.specs.Laws.Accepted.{isContour, written-accepted, site-built, contours-within}
 use Rattle.corrections.specs.Laws.AddingUp.{AddsUp, adds-up-perm}
-
-abbrev pub cellsAt : Site → ℕ
-cellsAt site = tileSide site * tileSide site
+use Rattle.corrections.specs.Laws.Parts.{cellsAt, parts-table}
 
 pub record Sums (site : Site) (cs : List Contour) (t : Tile) : Type 0 where
   pub is-site : SiteYes site
@@ -59,31 +52,14 @@ pub record Sums (site : Site) (cs : List Contour) (t : Tile) : Type 0 where
   pub right : every (isContour (reach site)) cs ≡ true
 
 -- ---- the table of contours is the sum of their values
-module _ (site : Site) where
-  abbrev depth : ℕ
-  depth = depthOf (tileSide site)
+outline-joined : (cs : List Contour) → joined contourEdges cs ≡ outlineEdges cs
+unfolding joined outlineEdges
+outline-joined [] = refl
+outline-joined (c ∷ cs) = ap (λ es. contourEdges c ++ es) (outline-joined cs)
 
-  abbrev entry : List Contour → ℕ → ℤ
-  entry cs i = entryOf depth (viewTable (viewAt site) depth (outlineEdges cs)) i
-
-  part-is : (c : Contour) (i : ℕ) → part site c i ≡ entryOf depth (viewTable (viewAt site) depth (contourEdges c)) i
-  part-is c i = ap (λ l. getD l i (pos 0)) (sym (site-entries site (contourEdges c)))
-
-  parts-are : (cs : List Contour) (i : ℕ) → total (λ c. part site c i) cs ≡ entry cs i
-  unfolding total outlineEdges
-  parts-are [] i = sym (entryOf-total (viewAt site) depth [] i)
-  parts-are (c ∷ cs) i = ap₂ _+ℤ_ (part-is c i) (parts-are cs i) ∙ sym (entryOf-append (viewAt site) depth (contourEdges c) (outlineEdges cs) i)
-
-  parts-table : (cs : List Contour) → SiteYes site
-      → added (replicate (cellsAt site) (pos 0)) (λ i. total (λ c. part site c i) cs) ≡ entriesAt site (outlineEdges cs)
-  parts-table cs y =
-      added-same (replicate (cellsAt site) (pos 0)) (λ i. total (λ c. part site c i) cs) (λ i. pos 1 *ℤ entry cs i) (λ i h. parts-are cs i ∙ once (entry cs i))
-      ∙ ap (λ n. added (replicate n (pos 0)) (λ i. pos 1 *ℤ entry cs i)) (side-cells (tileSide site) (site-side site y))
-      ∙ added-zeros depth (viewTable (viewAt site) depth (outlineEdges cs))
-      ∙ site-entries site (outlineEdges cs)
-    where
-      once : (x : ℤ) → x ≡ pos 1 *ℤ x
-      once x = ring (x ∷ []) (search read depth 40) tt
+contours-table : (site : Site) (cs : List Contour) → SiteYes site
+    → added (replicate (cellsAt site) (pos 0)) (λ i. total (λ c. part site c i) cs) ≡ entriesAt site (outlineEdges cs)
+contours-table site cs y = parts-table contourEdges site cs y ∙ ap (entriesAt site) (outline-joined cs)
 
 -- ---- any order
 pub reordered : {site : Site} {cs ds : List Contour} {t : Tile} → Perm cs ds → Sums site cs t → Sums site ds t
@@ -100,7 +76,7 @@ module _ {site : Site} {cs : List Contour} {t : Tile} (s : Sums site cs t) where
   building-accepts before e = written-accepted site cs before .1 (s .is-site, question2-means (tileSide site) before .1 e, s .right, s .few)
 
   table-is : t .table ≡ entriesAt site (outlineEdges cs)
-  table-is = s .adds-up .table-is ∙ parts-table site cs (s .is-site)
+  table-is = s .adds-up .table-is ∙ contours-table site cs (s .is-site)
 
   table-built : (before : List ℤ) → length before ≡ cellsAt site → siteTable site (coordinates cs) (countsOf cs) before ≡ t .table
   table-built before e =
@@ -155,7 +131,7 @@ sums-of-built site cs t before done table edges =
     let y = written-accepted site cs before .0 done in
     record {
       is-site = y .0;
-      adds-up = record { table-is = table ∙ sym (parts-table site cs (y .0)); edges-is = edges ∙ contours-edges cs };
+      adds-up = record { table-is = table ∙ sym (contours-table site cs (y .0)); edges-is = edges ∙ contours-edges cs };
       few = y .3;
       right = y .2;
     }

@@ -5,27 +5,22 @@
 --   holds-put, holds-taken       what it holds
 --   same-side                    it has the tile's side
 --   left-in-range                the table that a call would leave is in question 9's range
-use mathlib.Core.Path.{_≡_, refl, sym, _∙_, ap₂, subst, subst⁻¹}
+use mathlib.Core.Path.{_≡_, sym, _∙_, ap₂, subst, subst⁻¹}
 use mathlib.Core.Bool.{_&&_}
 use mathlib.Core.List.{List, _∷_}
-use Prim.Native.Nat.{ℕ, _+_, _*_, _<_, _≤_}
+use Prim.Native.Nat.{_+_, _≤_}
 use native.Mathlib.Omega.{arith}
-use lib.Dec.{lit≤}
 use lib.ListN.{length}
-use lib.IntN.{ℤ, pos, _*ℤ_}
-use Rattle.integers.specs.Units.{mostEdges, entryLimit, builtEntryLimit}
-use Rattle.integers.specs.Order.{pos-≤ℤ}
-use Rattle.integers.specs.Within.{Within, within-is, within-le, within-zero, within-add}
-use Rattle.integers.specs.ListSum.{getD-each, tally}
+use lib.IntN.{_*ℤ_}
+use Rattle.integers.specs.Units.{mostEdges}
+use Rattle.integers.specs.ListSum.{tally}
 use Rattle.integers.specs.Tests.{every, and-true-means}
 use Rattle.rasterize.specs.Added.{added}
-use Rattle.rasterize.specs.Laws.Adding.{added-length, added-entry}
 use Rattle.tile.specs.Questions.{Yes, question9}
 use Rattle.tile.specs.Refusals.{question2-means}
 use Rattle.tile.specs.Written.{Contour}
 use Rattle.tile.specs.Laws.IfDone.{if-done}
 use Rattle.tile.specs.Laws.Sides.{square-injective}
-use Rattle.tile.specs.Laws.Answers.{in-range-entries}
 use Rattle.sheet.specs.declared.Site.{Site}
 use Rattle.sheet.specs.Sites.{tileSide, reach}
 use Rattle.corrections.specs.declared.Change.{Change}
@@ -35,7 +30,8 @@ use Rattle.corrections.specs.Holding.{HoldsContours}
 use Rattle.corrections.specs.Laws.Answered.{AskedYes, call-accepted}
 use Rattle.corrections.specs.Laws.Accepted.{isContour}
 use Rattle.corrections.specs.Laws.AddingUp.{AddsUp, adds-up-put, adds-up-taken}
-use Rattle.corrections.specs.Laws.Held.{cellsAt, Sums, holds-of-sums, sums-of-holds, sums-length, sums-within}
+use Rattle.corrections.specs.Laws.Held.{Sums, holds-of-sums, sums-of-holds, sums-length, sums-within}
+use Rattle.corrections.specs.Laws.Parts.{cellsAt, added-in-range}
 use Rattle.corrections.specs.Laws.AskedContour.{contour-count, few-edges, contour-accepted, part-within}
 
 module _ (k : Call) (t : Tile) (done : correctRefusal k t ≡ 0) where
@@ -86,12 +82,4 @@ module _ (k : Call) (t : Tile) (done : correctRefusal k t ≡ 0) where
 
 -- ---- the tile's entries and the contour's are each at most what the most edges add; whichever sites they are of
 pub left-in-range : (k : Call) (t : Tile) {site : Site} {cs : List Contour} → AskedYes k t → Sums site cs t → Yes (question9 (wouldLeave k t))
-left-in-range k t {site} {cs} yes s =
-    let g : ℕ → ℤ = λ i. signOf (k .change) *ℤ part (k .site) (contourOf k) i in
-    let large : builtEntryLimit + builtEntryLimit ≤ entryLimit = lit≤ tt in
-    in-range-entries (wouldLeave k t)
-    (record {
-      each = getD-each (Within (pos entryLimit)) (pos 0) (within-zero entryLimit) (added (t .table) g)
-          (λ i h. within-le (pos-≤ℤ large)
-          (within-is refl (sym (added-entry (t .table) g i (subst (λ n. i < n) (added-length (t .table) g) h))) (within-add (sums-within s i) (part-within k t yes i))));
-    })
+left-in-range k t yes s = added-in-range (t .table) (λ i. signOf (k .change) *ℤ part (k .site) (contourOf k) i) (sums-within s) (part-within k t yes)
