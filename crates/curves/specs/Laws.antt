@@ -4,3 +4,7 @@
 pub mod CountingDown
 -- the number of an outline's edges, as far as it is counted
 pub mod CappedChords
+-- contours written as an outline
+pub mod Written
+-- the tile that holds contours, by sums
+pub mod CurvedSums

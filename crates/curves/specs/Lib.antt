@@ -13,5 +13,8 @@ pub mod CurveRefusals
 -- ---- demand 3, with 02's distance of chords from their curves: the claim, and that it holds
 pub mod FaithfulCurves
 pub mod CurveTheorem
+-- ---- putting in and taking out: what the calls answer and leave, and what a tile then holds
+pub mod CurvedCorrections
+pub mod CurvedHolding
 -- ---- how it is proved
 pub mod Laws

@@ -13,8 +13,8 @@ use reference::{Correction, Curves, Placement, SheetTile, Spec, STEPS};
 /// Any seed will do; it is fixed so that a failure can be seen again.
 const SEED: u64 = 1;
 /// Rounds of all grounds, the sides of tiles alone and the pairs of a sheet's and a tile's side: as many as take some seconds each.
-const CASES: u64 = 24 * GROUNDS;
-const SERIES: u64 = 24 * GROUNDS;
+const CASES: u64 = 20 * GROUNDS;
+const SERIES: u64 = 20 * GROUNDS;
 
 /// The numbers that building, putting in and taking out answer, in the order of their questions; 0 is the work done. Some of these calls are on tiles
 /// alone and some on tiles of sheets, and some of the corrections without marks.
@@ -70,7 +70,7 @@ fn library_and_reference_agree_in_series_with_curves() {
     assert!(seen.marked_otherwise.iter().all(|&contours| contours > SERIES / 8), "{:?}", seen.marked_otherwise);
     assert!(seen.under_another > taken / 2, "{} of {taken} under another placement", seen.under_another);
     assert!(seen.would_leave.iter().all(|&calls| calls > 20), "9 by the table left: {:?}", seen.would_leave);
-    assert!(seen.near > SERIES / 12 && seen.emptied > SERIES / 6 && seen.full > 10 && seen.undone > SERIES);
+    assert!(seen.near > SERIES / 12 && seen.emptied > SERIES / 6 && seen.full > 5 && seen.undone > SERIES);
 }
 
 /// A letter of a font on ground of this side: as large as there is room for, or smaller, y turned downwards. A contour of fewer than three edges gets

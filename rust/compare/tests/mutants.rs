@@ -11,8 +11,8 @@ const CASES: u64 = 2_000;
 const SERIES: u64 = 500;
 const CASES_ON_SHEETS: u64 = 400;
 const SERIES_ON_SHEETS: u64 = 300;
-const CASES_OF_CURVES: u64 = 80;
-const SERIES_WITH_CURVES: u64 = 120;
+const CASES_OF_CURVES: u64 = 60;
+const SERIES_WITH_CURVES: u64 = 80;
 
 fn first_difference(rules: &dyn Rules) -> Option<(u64, Difference)> {
     let mut seen = Seen::default();
