@@ -8,3 +8,5 @@ pub mod CappedChords
 pub mod Written
 -- the tile that holds contours, by sums
 pub mod CurvedSums
+-- what a call makes of a tile that holds contours
+pub mod CurvedKept

@@ -15,6 +15,10 @@ ghost use Rattle.chords.specs.Sides.{numbersOf, numbers};
 ghost use Rattle.curves.specs.MarkedQuestions.{isMark};
 ghost use Rattle.curves.specs.CurveOutcomes.{refusal, markedResult, curvesResult, curvesTable};
 ghost use Rattle.curves.specs.FaithfulCurves.{FaithfulCurves};
+ghost use Rattle.corrections.specs.Corrections.{tileOf};
+ghost use Rattle.curves.specs.CurvedCorrections.{curveCallOf, puttingCurve, takingCurve, correctCurveRefusal, correctedCurve};
+ghost use Rattle.curves.specs.CurvedHolding.{HoldsOneMoreCurve, HoldsOneLessCurve};
+use corrections::Change;
 use placement::Placement;
 use sheet::Site;
 use tile::Built;
@@ -162,7 +166,7 @@ fn refused(number: u32) -> Built
     Built { number, edges: 0 }
 }
 
-// ---- the call
+// ---- building
 
 // Builds the table of an outline with curved edges, at a site: `marks` has 0 or 1, straight or curved, for each edge of each contour in turn, `counts` how many
 // edges each contour has, and `points` x and y of each edge's start, after which a curved one has its control point. The outline is the points as placed. The
@@ -195,4 +199,103 @@ pub fn build_curves(
     let view = sheet::view_of(site);
     chords::add_outline(table, points, counts, marks, placement, view, 1, depth);
     built
+}
+
+// ---- putting in and taking out
+
+// Puts a contour with marks in or takes it out.
+fn correct_curves(
+    site: Site,
+    change: Change,
+    points: &[i64],
+    count: u32,
+    marks: &[u8],
+    placement: Placement,
+    edges: &mut u32,
+    table: &mut [i64],
+) -> u32
+    ensures { λ r. ⌜ r ≡ correctCurveRefusal (curveCallOf change site (now (points .entry)) count (now (marks .entry)) placement) (tileOf (now (table .entry)) (now (edges .entry))) ⌝ }
+    ensures { λ _. ⌜ tileOf (now (table .exit)) (now (edges .exit)) ≡ correctedCurve (curveCallOf change site (now (points .entry)) count (now (marks .entry)) placement) (tileOf (now (table .entry)) (now (edges .entry))) ⌝ }
+    ensures { λ _. ⌜ (now (points .exit) ≡ now (points .entry)) × (now (marks .exit) ≡ now (marks .entry)) ⌝ }
+{
+    let counts = [count];
+    let already = corrections::already_in(change, *edges);
+    let refusal = sheet::site_refusal(site, table);
+    if refusal != DONE {
+        return refusal;
+    }
+    let reach = sheet::reach_of(site);
+    let asked = marked_refusal(reach, points, &counts, marks, placement, already);
+    if asked.number != DONE {
+        return asked.number;
+    }
+    corrections::amend(
+        site,
+        change,
+        points,
+        marks,
+        asked.edges,
+        placement,
+        edges,
+        table,
+    )
+}
+
+// Puts a contour with curved edges into a tile, which is a table with the record of its edge count: `marks` has one for each of its `count` edges, `points` is as
+// with `build_curves`, and the contour is these as placed. The answer is 0, and what the contour's edges add to each entry is added to the table, and their
+// number, the chords', to the record. Or it is the number of the first question that is answered no, and table and record are as they were.
+pub fn put_curves(
+    site: Site,
+    points: &[i64],
+    count: u32,
+    marks: &[u8],
+    placement: Placement,
+    edges: &mut u32,
+    table: &mut [i64],
+) -> u32
+    ensures { λ r. ⌜ r ≡ correctCurveRefusal (puttingCurve site (now (points .entry)) count (now (marks .entry)) placement) (tileOf (now (table .entry)) (now (edges .entry))) ⌝ }
+    ensures { λ _. ⌜ now (edges .exit) ≡ correctedCurve (puttingCurve site (now (points .entry)) count (now (marks .entry)) placement) (tileOf (now (table .entry)) (now (edges .entry))) .edges ⌝ }
+    ensures { λ _. ⌜ now (table .exit) ≡ correctedCurve (puttingCurve site (now (points .entry)) count (now (marks .entry)) placement) (tileOf (now (table .entry)) (now (edges .entry))) .table ⌝ }
+    ensures { λ _. ⌜ HoldsOneMoreCurve (puttingCurve site (now (points .entry)) count (now (marks .entry)) placement) (tileOf (now (table .entry)) (now (edges .entry))) (tileOf (now (table .exit)) (now (edges .exit))) ⌝ }
+    ensures { λ _. ⌜ (now (points .exit) ≡ now (points .entry)) × (now (marks .exit) ≡ now (marks .entry)) ⌝ }
+{
+    correct_curves(
+        site,
+        Change::Put, // into the tile
+        points,
+        count,
+        marks,
+        placement,
+        edges,
+        table,
+    )
+}
+
+// Takes a contour with curved edges out of a tile again: as `put_curves`, with its values taken from the table and the number of its edges from the record. A
+// contour of points that `put` put in can be taken out with every mark 0, and one without curves that was put in here by `take`.
+pub fn take_curves(
+    site: Site,
+    points: &[i64],
+    count: u32,
+    marks: &[u8],
+    placement: Placement,
+    edges: &mut u32,
+    table: &mut [i64],
+) -> u32
+    ensures { λ r. ⌜ r ≡ correctCurveRefusal (takingCurve site (now (points .entry)) count (now (marks .entry)) placement) (tileOf (now (table .entry)) (now (edges .entry))) ⌝ }
+    ensures { λ _. ⌜ now (edges .exit) ≡ correctedCurve (takingCurve site (now (points .entry)) count (now (marks .entry)) placement) (tileOf (now (table .entry)) (now (edges .entry))) .edges ⌝ }
+    ensures { λ _. ⌜ now (table .exit) ≡ correctedCurve (takingCurve site (now (points .entry)) count (now (marks .entry)) placement) (tileOf (now (table .entry)) (now (edges .entry))) .table ⌝ }
+    ensures { λ _. ⌜ HoldsOneLessCurve (takingCurve site (now (points .entry)) count (now (marks .entry)) placement) (tileOf (now (table .entry)) (now (edges .entry))) (tileOf (now (table .exit)) (now (edges .exit))) ⌝ }
+    ensures { λ _. ⌜ (now (points .exit) ≡ now (points .entry)) × (now (marks .exit) ≡ now (marks .entry)) ⌝ }
+{
+    correct_curves(
+        site,
+        Change::Take, // out of the tile
+        points,
+        count,
+        marks,
+        placement,
+        edges,
+        table,
+    )
 }
