@@ -1,4 +1,4 @@
-// The ten calls for programs in C or Rust: `include/mattuliyan.h` declares them, and says what its caller owes.
+// The sixteen calls for programs in C or Rust: `include/mattuliyan.h` declares them, and says what its caller owes.
 //
 // A slice is passed as a pointer and a length, a place on a sheet as its four numbers. A call that answers two numbers answers the first, that of the refusal or
 // 0, and writes the second through a pointer.
@@ -10,10 +10,16 @@ ghost use Rattle.sheet.specs.SheetOutcomes.{tileAt, sheetResult, sheetTable};
 ghost use Rattle.sheet.specs.FaithfulOnSheet.{FaithfulOnSheet};
 ghost use Rattle.corrections.specs.Corrections.{tileOf, putting, taking, puttingOn, takingOn, correctRefusal, corrected};
 ghost use Rattle.corrections.specs.Holding.{HoldsOneMore, HoldsOneLess};
+ghost use Rattle.sheet.specs.declared.Site.the-variants.{Alone, OnSheet};
+ghost use Rattle.curves.specs.CurveOutcomes.{curvesResult, curvesTable};
+ghost use Rattle.curves.specs.FaithfulCurves.{FaithfulCurves};
+ghost use Rattle.curves.specs.CurvedCorrections.{puttingCurve, takingCurve, correctCurveRefusal, correctedCurve};
+ghost use Rattle.curves.specs.CurvedHolding.{HoldsOneMoreCurve, HoldsOneLessCurve};
 ghost use Rattle.tile_c.specs.PlacementNumbers.{placementOf};
 use placement::Matrix;
 use placement::Placement;
 use sheet::SheetTile;
+use sheet::Site;
 
 // How many numbers each placement has.
 const NUMBERS_OF_NONE: usize = 0;
@@ -214,6 +220,154 @@ pub extern "C" fn mattuliyan_take_on_sheet(
 {
     let place = place_of(sheet, side, column, row);
     corrections::take_on_sheet(place, points, count, placement_of(placement), edges, table)
+}
+
+// `curves::build_curves` on a tile alone: the number, and the edge count into `edges`, 0 where it is refused.
+#[no_mangle]
+pub extern "C" fn mattuliyan_build_curves(
+    side: u32,
+    points: &[i64],
+    counts: &[u32],
+    marks: &[u8],
+    placement: &[f64],
+    table: &mut [i64],
+    edges: &mut u32,
+) -> u32
+    ensures { λ r. ⌜ r ≡ curvesResult (Alone side) (now (points .entry)) (now (counts .entry)) (now (marks .entry)) (placementOf (now (placement .entry))) (now (table .entry)) .number ⌝ }
+    ensures { λ _. ⌜ now (edges .exit) ≡ curvesResult (Alone side) (now (points .entry)) (now (counts .entry)) (now (marks .entry)) (placementOf (now (placement .entry))) (now (table .entry)) .edges ⌝ }
+    ensures { λ _. ⌜ now (table .exit) ≡ curvesTable (Alone side) (now (points .entry)) (now (counts .entry)) (now (marks .entry)) (placementOf (now (placement .entry))) (now (table .entry)) ⌝ }
+    ensures { λ _. ⌜ FaithfulCurves (Alone side) (now (points .entry)) (now (counts .entry)) (now (marks .entry)) (placementOf (now (placement .entry))) (now (table .entry)) (now (table .exit)) ⌝ }
+    ensures { λ _. ⌜ (now (points .exit) ≡ now (points .entry)) × (now (counts .exit) ≡ now (counts .entry)) × (now (marks .exit) ≡ now (marks .entry)) × (now (placement .exit) ≡ now (placement .entry)) ⌝ }
+{
+    let site = Site::Alone(side);
+    let moved = placement_of(placement);
+    let built = curves::build_curves(site, points, counts, marks, moved, table);
+    *edges = built.edges;
+    built.number
+}
+
+// `curves::put_curves` on a tile alone: `edges` is the record, read and written.
+#[no_mangle]
+pub extern "C" fn mattuliyan_put_curves(
+    side: u32,
+    points: &[i64],
+    count: u32,
+    marks: &[u8],
+    placement: &[f64],
+    edges: &mut u32,
+    table: &mut [i64],
+) -> u32
+    ensures { λ r. ⌜ r ≡ correctCurveRefusal (puttingCurve (Alone side) (now (points .entry)) count (now (marks .entry)) (placementOf (now (placement .entry)))) (tileOf (now (table .entry)) (now (edges .entry))) ⌝ }
+    ensures { λ _. ⌜ now (edges .exit) ≡ correctedCurve (puttingCurve (Alone side) (now (points .entry)) count (now (marks .entry)) (placementOf (now (placement .entry)))) (tileOf (now (table .entry)) (now (edges .entry))) .edges ⌝ }
+    ensures { λ _. ⌜ now (table .exit) ≡ correctedCurve (puttingCurve (Alone side) (now (points .entry)) count (now (marks .entry)) (placementOf (now (placement .entry)))) (tileOf (now (table .entry)) (now (edges .entry))) .table ⌝ }
+    ensures { λ _. ⌜ HoldsOneMoreCurve (puttingCurve (Alone side) (now (points .entry)) count (now (marks .entry)) (placementOf (now (placement .entry)))) (tileOf (now (table .entry)) (now (edges .entry))) (tileOf (now (table .exit)) (now (edges .exit))) ⌝ }
+    ensures { λ _. ⌜ (now (points .exit) ≡ now (points .entry)) × (now (marks .exit) ≡ now (marks .entry)) × (now (placement .exit) ≡ now (placement .entry)) ⌝ }
+{
+    let site = Site::Alone(side);
+    let moved = placement_of(placement);
+    curves::put_curves(site, points, count, marks, moved, edges, table)
+}
+
+// `curves::take_curves` on a tile alone: `edges` is the record, read and written.
+#[no_mangle]
+pub extern "C" fn mattuliyan_take_curves(
+    side: u32,
+    points: &[i64],
+    count: u32,
+    marks: &[u8],
+    placement: &[f64],
+    edges: &mut u32,
+    table: &mut [i64],
+) -> u32
+    ensures { λ r. ⌜ r ≡ correctCurveRefusal (takingCurve (Alone side) (now (points .entry)) count (now (marks .entry)) (placementOf (now (placement .entry)))) (tileOf (now (table .entry)) (now (edges .entry))) ⌝ }
+    ensures { λ _. ⌜ now (edges .exit) ≡ correctedCurve (takingCurve (Alone side) (now (points .entry)) count (now (marks .entry)) (placementOf (now (placement .entry)))) (tileOf (now (table .entry)) (now (edges .entry))) .edges ⌝ }
+    ensures { λ _. ⌜ now (table .exit) ≡ correctedCurve (takingCurve (Alone side) (now (points .entry)) count (now (marks .entry)) (placementOf (now (placement .entry)))) (tileOf (now (table .entry)) (now (edges .entry))) .table ⌝ }
+    ensures { λ _. ⌜ HoldsOneLessCurve (takingCurve (Alone side) (now (points .entry)) count (now (marks .entry)) (placementOf (now (placement .entry)))) (tileOf (now (table .entry)) (now (edges .entry))) (tileOf (now (table .exit)) (now (edges .exit))) ⌝ }
+    ensures { λ _. ⌜ (now (points .exit) ≡ now (points .entry)) × (now (marks .exit) ≡ now (marks .entry)) × (now (placement .exit) ≡ now (placement .entry)) ⌝ }
+{
+    let site = Site::Alone(side);
+    let moved = placement_of(placement);
+    curves::take_curves(site, points, count, marks, moved, edges, table)
+}
+
+// `curves::build_curves` on a sheet: the number, and the edge count into `edges`, 0 where it is refused.
+#[no_mangle]
+pub extern "C" fn mattuliyan_build_curves_on_sheet(
+    sheet: u32,
+    side: u32,
+    column: u32,
+    row: u32,
+    points: &[i64],
+    counts: &[u32],
+    marks: &[u8],
+    placement: &[f64],
+    table: &mut [i64],
+    edges: &mut u32,
+) -> u32
+    ensures { λ r. ⌜ r ≡ curvesResult (OnSheet (tileAt sheet side column row)) (now (points .entry)) (now (counts .entry)) (now (marks .entry)) (placementOf (now (placement .entry))) (now (table .entry)) .number ⌝ }
+    ensures { λ _. ⌜ now (edges .exit) ≡ curvesResult (OnSheet (tileAt sheet side column row)) (now (points .entry)) (now (counts .entry)) (now (marks .entry)) (placementOf (now (placement .entry))) (now (table .entry)) .edges ⌝ }
+    ensures { λ _. ⌜ now (table .exit) ≡ curvesTable (OnSheet (tileAt sheet side column row)) (now (points .entry)) (now (counts .entry)) (now (marks .entry)) (placementOf (now (placement .entry))) (now (table .entry)) ⌝ }
+    ensures { λ _. ⌜ FaithfulCurves (OnSheet (tileAt sheet side column row)) (now (points .entry)) (now (counts .entry)) (now (marks .entry)) (placementOf (now (placement .entry))) (now (table .entry)) (now (table .exit)) ⌝ }
+    ensures { λ _. ⌜ (now (points .exit) ≡ now (points .entry)) × (now (counts .exit) ≡ now (counts .entry)) × (now (marks .exit) ≡ now (marks .entry)) × (now (placement .exit) ≡ now (placement .entry)) ⌝ }
+{
+    let place = place_of(sheet, side, column, row);
+    let site = Site::OnSheet(place);
+    let moved = placement_of(placement);
+    let built = curves::build_curves(site, points, counts, marks, moved, table);
+    *edges = built.edges;
+    built.number
+}
+
+// `curves::put_curves` on a sheet: `edges` is the record, read and written.
+#[no_mangle]
+pub extern "C" fn mattuliyan_put_curves_on_sheet(
+    sheet: u32,
+    side: u32,
+    column: u32,
+    row: u32,
+    points: &[i64],
+    count: u32,
+    marks: &[u8],
+    placement: &[f64],
+    edges: &mut u32,
+    table: &mut [i64],
+) -> u32
+    ensures { λ r. ⌜ r ≡ correctCurveRefusal (puttingCurve (OnSheet (tileAt sheet side column row)) (now (points .entry)) count (now (marks .entry)) (placementOf (now (placement .entry)))) (tileOf (now (table .entry)) (now (edges .entry))) ⌝ }
+    ensures { λ _. ⌜ now (edges .exit) ≡ correctedCurve (puttingCurve (OnSheet (tileAt sheet side column row)) (now (points .entry)) count (now (marks .entry)) (placementOf (now (placement .entry)))) (tileOf (now (table .entry)) (now (edges .entry))) .edges ⌝ }
+    ensures { λ _. ⌜ now (table .exit) ≡ correctedCurve (puttingCurve (OnSheet (tileAt sheet side column row)) (now (points .entry)) count (now (marks .entry)) (placementOf (now (placement .entry)))) (tileOf (now (table .entry)) (now (edges .entry))) .table ⌝ }
+    ensures { λ _. ⌜ HoldsOneMoreCurve (puttingCurve (OnSheet (tileAt sheet side column row)) (now (points .entry)) count (now (marks .entry)) (placementOf (now (placement .entry)))) (tileOf (now (table .entry)) (now (edges .entry))) (tileOf (now (table .exit)) (now (edges .exit))) ⌝ }
+    ensures { λ _. ⌜ (now (points .exit) ≡ now (points .entry)) × (now (marks .exit) ≡ now (marks .entry)) × (now (placement .exit) ≡ now (placement .entry)) ⌝ }
+{
+    let place = place_of(sheet, side, column, row);
+    let site = Site::OnSheet(place);
+    let moved = placement_of(placement);
+    curves::put_curves(site, points, count, marks, moved, edges, table)
+}
+
+// `curves::take_curves` on a sheet: `edges` is the record, read and written.
+#[no_mangle]
+pub extern "C" fn mattuliyan_take_curves_on_sheet(
+    sheet: u32,
+    side: u32,
+    column: u32,
+    row: u32,
+    points: &[i64],
+    count: u32,
+    marks: &[u8],
+    placement: &[f64],
+    edges: &mut u32,
+    table: &mut [i64],
+) -> u32
+    ensures { λ r. ⌜ r ≡ correctCurveRefusal (takingCurve (OnSheet (tileAt sheet side column row)) (now (points .entry)) count (now (marks .entry)) (placementOf (now (placement .entry)))) (tileOf (now (table .entry)) (now (edges .entry))) ⌝ }
+    ensures { λ _. ⌜ now (edges .exit) ≡ correctedCurve (takingCurve (OnSheet (tileAt sheet side column row)) (now (points .entry)) count (now (marks .entry)) (placementOf (now (placement .entry)))) (tileOf (now (table .entry)) (now (edges .entry))) .edges ⌝ }
+    ensures { λ _. ⌜ now (table .exit) ≡ correctedCurve (takingCurve (OnSheet (tileAt sheet side column row)) (now (points .entry)) count (now (marks .entry)) (placementOf (now (placement .entry)))) (tileOf (now (table .entry)) (now (edges .entry))) .table ⌝ }
+    ensures { λ _. ⌜ HoldsOneLessCurve (takingCurve (OnSheet (tileAt sheet side column row)) (now (points .entry)) count (now (marks .entry)) (placementOf (now (placement .entry)))) (tileOf (now (table .entry)) (now (edges .entry))) (tileOf (now (table .exit)) (now (edges .exit))) ⌝ }
+    ensures { λ _. ⌜ (now (points .exit) ≡ now (points .entry)) × (now (marks .exit) ≡ now (marks .entry)) × (now (placement .exit) ≡ now (placement .entry)) ⌝ }
+{
+    let place = place_of(sheet, side, column, row);
+    let site = Site::OnSheet(place);
+    let moved = placement_of(placement);
+    curves::take_curves(site, points, count, marks, moved, edges, table)
 }
 
 // `tile::figures`.

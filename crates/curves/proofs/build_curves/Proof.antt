@@ -71,8 +71,7 @@ returns c =
     let s = a .before .before .before .before in
     let e = a .site-refusal .ensures .0 in
     let n = e ∙ first-refused (first s) (rest s) (λ z. c .before .if1 .taken (e ∙ z)) in
-    let no : number s ≢ 0 = λ z. c .before .if1 .taken (n ∙ z) in
-    (
+    let no : number s ≢ 0 = λ z. c .before .if1 .taken (n ∙ z) in (
       c .refused .ensures ∙ ap₂ (λ m k. record { number = m; edges = k }) n (sym (if-refused _ 0 no)),
       (kept s no, (is-faithful s (kept s no), (refl, refl, refl))),
     )

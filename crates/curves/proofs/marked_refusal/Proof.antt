@@ -83,8 +83,7 @@ returns-2 : tie.Need-returns-2
 returns-2 c =
     let a = c .before .before in
     let s = start-2 a in
-    let no = sym (a .are-marks .ensures) ∙ not-true _ (c .before .if2 .taken) in
-    (
+    let no = sym (a .are-marks .ensures) ∙ not-true _ (c .before .if2 .taken) in (
       c .refused2 .ensures
           ∙ refusal-is s (λ z. omega (arith, z)) (no-at (after-1 (a .before)) (ap (λ b. b && eqb (length (marks s)) (edgeCount (counts s))) no)),
       (refl, refl, refl),
@@ -102,8 +101,7 @@ after-2 c = passed (after-1 (c .before .before .before .before)) (asked-16 (c .b
 returns-3 : tie.Need-returns-3
 returns-3 c =
     let a = c .before .before in
-    let s = start-3 a in
-    (
+    let s = start-3 a in (
       c .refused3 .ensures ∙ refusal-is s (λ z. omega (arith, z)) (refused (after-1 (a .before .before .before)) (asked-16 a) (c .before .if3 .taken)),
       (refl, refl, refl),
     )
@@ -117,8 +115,7 @@ after-3 c = passed (after-2 (c .before .before)) (c .before .is-size .ensures) (
 
 returns-4 : tie.Need-returns-4
 returns-4 c =
-    let a = c .before .before in
-    (
+    let a = c .before .before in (
       c .refused4 .ensures ∙ refusal-is (start-4 a) (λ z. omega (arith, z)) (refused (after-2 (a .before)) (a .is-size .ensures) (c .before .if4 .taken)),
       (refl, refl, refl),
     )
@@ -135,8 +132,7 @@ after-4 c = passed (after-3 (c .before .before)) (c .before .is-placeable .ensur
 
 returns-5 : tie.Need-returns-5
 returns-5 c =
-    let a = c .before .before in
-    (
+    let a = c .before .before in (
       c .refused5 .ensures ∙ refusal-is (start-5 a) (λ z. omega (arith, z)) (refused (after-3 (a .before)) (a .is-placeable .ensures) (c .before .if5 .taken)),
       (refl, refl, refl),
     )
@@ -169,8 +165,7 @@ after-5 c = passed (after-4 (c .before .before)) (asked-6 (c .before)) (c .if6 .
 
 returns-6 : tie.Need-returns-6
 returns-6 c =
-    let a = c .before .before in
-    (
+    let a = c .before .before in (
       c .refused6 .ensures ∙ refusal-is (start-6 a) (λ z. omega (arith, z)) (refused (after-4 (a .before)) (asked-6 a) (c .before .if6 .taken)),
       (refl, refl, refl),
     )
@@ -197,8 +192,7 @@ module _ (c : tie.Else6) where
 
 outline-chords-requires : tie.Need-outline-chords-requires
 outline-chords-requires c κs =
-    let counted = summed c .before .before .before .before in
-    (
+    let counted = summed c .before .before .before .before in (
       enough (sized c),
       eqb-means _ _ .0 (sym (summed c .before .is-sum .ensures) ∙ not-false _ (summed c .if3 .left)),
       all-map (λ n h. h .1) (counts (from c)) (question4-means (counts (from c)) .0 (sym (counted .before .are-counts .ensures) ∙ not-false _ (counted .if1 .left))),
@@ -230,8 +224,7 @@ add-if7 c = record { fits = omega (arith, bound c, s c .fits .already .fits) }
 
 returns-7 : tie.Need-returns-7
 returns-7 c =
-    let a = c .before .before in
-    (
+    let a = c .before .before in (
       c .refused7 .ensures
           ∙ refusal-is (s a) (λ z. omega (arith, z)) (no-at (after-5 (a .before)) (lt-leb (s a .args .already + length (es a)) mostEdges (many a (c .before .if7 .taken)))),
       (refl, refl, refl),

@@ -95,8 +95,7 @@ on-sheets side wide [] h e = tt
 on-sheets side wide (c ∷ cs) h e =
     let both = and-true-means (isCurve side c) (every (isCurve side) cs) .0 e in
     let inner = and-true-means (every isMark (c .marks)) (question6 side (c .coordinates) .answer) .0
-    (and-true-means (question4 (length (c .marks) ∷ []) .answer) (every isMark (c .marks) && question6 side (c .coordinates) .answer) .0 (both .0) .1) in
-    (
+    (and-true-means (question4 (length (c .marks) ∷ []) .answer) (every isMark (c .marks) && question6 side (c .coordinates) .answer) .0 (both .0) .1) in (
       (h .0, all-map (λ z i. (i .0, ≤ℤ-trans (i .1) (pos-≤ℤ wide))) (c .coordinates) (question6-means side (c .coordinates) .0 (inner .1))),
       on-sheets side wide cs (h .1) (both .1),
     )

@@ -104,8 +104,7 @@ curves-asked side cs =
     let marked = every isMark (writtenMarks cs) in
     let six = question6 side (writtenPoints cs) .answer in
     let outer = and-true-means four (marked && six) in
-    let inner = and-true-means marked six in
-    (
+    let inner = and-true-means marked six in (
       λ e. (let h = outer .0 (sym (all-asked side cs) ∙ e) in let i = inner .0 (h .1) in (h .0, i .0, i .1)),
       λ h. all-asked side cs ∙ outer .1 (h .0, inner .1 (h .1, h .2)),
     )
@@ -128,12 +127,10 @@ module _ (site : Site) (cs : List MarkedContour) (shaped : All Shaped cs) (befor
       let still = ap (λ l. question6 (reach site) l .answer) (placed-none points) in
       let said = question16-means counts marks in
       let five = question5Chords-means 0 (edgesMarked points counts marks None) in
-      let counted = ap length written-edges in
-      (
+      let counted = ap length written-edges in (
         λ done. (let y = zero .0 done in
             let about = site-answers site before .0 (all-front Yes (siteQuestions site before) outline y) in
-            let o = all-back Yes (siteQuestions site before) outline y in
-            (
+            let o = all-back Yes (siteQuestions site before) outline y in (
               about .0,
               about .1,
               curves-asked (reach site) cs .1 (o .0, and-true-means (every isMark marks) (eqb (length marks) (edgeCount counts)) .0 (o .1 .0) .0, sym still ∙ o .1 .1 .1 .1 .0),
