@@ -42,14 +42,14 @@ use Rattle.tile.specs.Outcomes.{edgesOf}
 use Rattle.tile.specs.EitherWay.{opposite, reversed-edges-table, either-way-count, either-way-every}
 use Rattle.tile.specs.ReversedOutline.{reversed, reversed-length, reversed-every, edges-of-reversed}
 use Rattle.tile.specs.Laws.IfDone.{if-done}
-use Rattle.frame.specs.Lines.{lineText}
-use Rattle.frame.specs.Frames.{Frame, frame, headWidth, coordinateWidth, contourText, frameText, Sayable, Writable}
-use Rattle.frame.specs.Reading.{isFrame, question11, frameOf}
-use Rattle.frame.specs.OutputLines.{rowsText, summaryText}
-use Rattle.frame.specs.Output.{outlineQuestions, frameRefusal, frameTable, frameGreys, drawnText, outputText}
-use Rattle.frame.specs.RoundTrip.{read-written, written-read}
+use Rattle.frame_text.specs.Lines.{lineText}
+use Rattle.frame_text.specs.Frames.{Frame, frame, headWidth, coordinateWidth, contourText, frameText, Sayable, Writable}
+use Rattle.frame_text.specs.Reading.{isFrame, frameOf}
+use Rattle.frame_text.specs.OutputLines.{rowsText, summaryText}
+use Rattle.frame_text.specs.RoundTrip.{read-written, written-read}
+use Rattle.frame_text.specs.Laws.Printing.{line-text-length}
+use Rattle.frame.specs.Output.{outlineQuestions, question11, frameRefusal, frameTable, frameGreys, drawnText, outputText}
 use Rattle.frame.specs.Refusals.{frame-refusals}
-use Rattle.frame.specs.Laws.Printing.{line-text-length}
 
 abbrev pub areaOf : Frame → ℤ
 areaOf f = signedArea (edgesOf (f .points) (f .counts))

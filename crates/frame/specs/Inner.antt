@@ -1,10 +1,6 @@
 -- What inner functions answer.
 --
 -- Definitions
---   lineLength t                 how many bytes stand before the first 0A, or how many there are
---   isBody t                     is the text after a frame's first line so formed?
---   bodyCoordinates, bodyCounts, sizeOf   what such a text says, and how much
---   Readable                     what reading it asks: room for a coordinate for each four bytes, and for a contour for each nine
 --   pictureSize level            how many places a level's picture has: none where the level is out of range, and question 7 is asked first
 --   drawNumber, greysDrawn       drawing a table that building left: the refusal, and what the picture then holds
 --   pictureText, tableText       what is printed of it
@@ -13,47 +9,19 @@
 --   outlineText f table          what is printed of a frame, by what the two calls answer
 --   outlineRefusal f, frameOutput, frameTableAfter   the refusal of a frame, what is printed of it, and what the table then holds
 --   isDeeper, levelRefusal       a level that no tile of this side has, and what is then refused
-use mathlib.Core.Path.{_≡_}
-use mathlib.Core.Bool.{Bool, true, cond, _&&_, _||_}
-use mathlib.Core.List.{List, [], _∷_, _++_, map}
-use Prim.Native.Nat.{ℕ, suc, _*_, _^_, _≤_}
-use lib.Dec.{eqb, leb, ltb}
+use mathlib.Core.Bool.{Bool, cond, _||_}
+use mathlib.Core.List.{List, _++_}
+use Prim.Native.Nat.{ℕ, _*_, _^_}
+use lib.Dec.{leb, ltb}
 use lib.IntN.{ℤ, pos}
-use lib.ListN.{length, getD, take, replicate}
-use Rattle.integers.specs.Units.{textLimit, greatestSide, greatestDepth}
-use Rattle.integers.specs.Tests.{every}
+use lib.ListN.{getD, take, replicate}
+use Rattle.integers.specs.Units.{greatestSide, greatestDepth}
 use Rattle.tile.specs.Questions.{firstNo}
 use Rattle.tile.specs.Outcomes.{ifDone, buildRefusal, buildResult, buildTable, drawRefusal, greysPicture}
-use Rattle.frame.specs.declared.reading.Size.{Size}
-use Rattle.frame.specs.Lines.{newline, lines, closes}
-use Rattle.frame.specs.Frames.{Frame, coordinateWidth, pointWidth}
-use Rattle.frame.specs.Reading.{isContour, allCoordinates, pointCount}
-use Rattle.frame.specs.OutputLines.{refusalText, rowsText, summaryText}
-use Rattle.frame.specs.Over.{over}
+use Rattle.frame_text.specs.Frames.{Frame}
+use Rattle.frame_text.specs.OutputLines.{refusalText, rowsText, summaryText}
+use Rattle.frame_text.specs.Over.{over}
 use Rattle.frame.specs.Output.{zeros, tableLength, outlineQuestions, frameTable, drawnText}
-
--- ---- reading
-unfoldable pub lineLength : List ℕ → ℕ
-lineLength [] = 0
-lineLength (b ∷ t) = cond (eqb b newline) 0 (suc (lineLength t))
-
-abbrev pub isBody : List ℕ → Bool
-isBody t = closes t && every isContour (lines t)
-
-abbrev pub bodyCoordinates : List ℕ → List ℤ
-bodyCoordinates t = allCoordinates (lines t)
-
-abbrev pub bodyCounts : List ℕ → List ℕ
-bodyCounts t = map pointCount (lines t)
-
-abbrev pub sizeOf : List ℕ → Size
-sizeOf t = record { coordinates = length (bodyCoordinates t); contours = length (bodyCounts t) }
-
-pub record Readable (body : List ℕ) (room-points room-counts : ℕ) : Type 0 where
-  pub formed : isBody body ≡ true
-  pub short : length body ≤ textLimit
-  pub for-points : length body ≤ coordinateWidth * room-points
-  pub for-counts : length body ≤ suc pointWidth * room-counts
 
 -- ---- the greys
 abbrev pub pictureSize : ℕ → ℕ

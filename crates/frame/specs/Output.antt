@@ -2,6 +2,7 @@
 --
 -- Definitions
 --   outlineQuestions f           building's questions and then the greys', of a frame, as far as a frame can fail them
+--   question11 t                 is the text that of a frame?
 --   frameQuestions t             those of a text, question 11 before all others
 --   frameRefusal t               the number of the first that is answered no; 0 where all are answered yes
 --   frameTable f, frameGreys f   the table of a frame's outline, and the greys of its level
@@ -22,11 +23,11 @@ use Rattle.haar.specs.Plane.{pictureIn}
 use Rattle.accuracy.specs.Outline.{edgeCount}
 use Rattle.tile.specs.Questions.{Question, firstNo, question1, question4, question5, question6, question7}
 use Rattle.tile.specs.Outcomes.{ifDone, tableOf}
+use Rattle.frame_text.specs.Over.{over}
+use Rattle.frame_text.specs.Frames.{Frame}
+use Rattle.frame_text.specs.Reading.{isFrame, frameOf}
+use Rattle.frame_text.specs.OutputLines.{refusalText, rowsText, summaryText, summaryLength, rowLength}
 use Rattle.frame.specs.declared.Answer.{Answer}
-use Rattle.frame.specs.Over.{over}
-use Rattle.frame.specs.Frames.{Frame}
-use Rattle.frame.specs.Reading.{question11, frameOf}
-use Rattle.frame.specs.OutputLines.{refusalText, rowsText, summaryText, summaryLength, rowLength}
 
 -- ---- refusals
 -- "Building: 1, 2, 4, 5, 3, 6. Pictures and greys: 1, 2, 7, 8, 9." "Building comes first, then the greys." Of these 2, 3, 8 and 9 never decide: the
@@ -35,6 +36,10 @@ use Rattle.frame.specs.OutputLines.{refusalText, rowsText, summaryText, 
 abbrev pub outlineQuestions : Frame → List Question
 outlineQuestions f =
     question1 (f .side) ∷ question4 (f .counts) ∷ question5 (f .counts) ∷ question6 (f .side) (f .points) ∷ question7 (f .side) (f .level) ∷ []
+
+-- "Is the text at most 16,384 bytes and so formed, with at least one point a line? No: 11"
+abbrev pub question11 : List ℕ → Question
+question11 t = record { number = 11; answer = isFrame t }
 
 -- "No: 11, before all others."
 abbrev pub frameQuestions : List ℕ → List Question

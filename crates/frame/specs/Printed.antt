@@ -14,12 +14,12 @@ use Rattle.haar.specs.Greys.{grey, OneApart}
 use Rattle.accuracy.specs.Outline.{edgeCount, signedArea}
 use Rattle.tile.specs.Outcomes.{edgesOf}
 use Rattle.tile.specs.Faithful.{exactFigureNum, exactDenominator}
+use Rattle.frame_text.specs.Digits.{hex, hexValue}
+use Rattle.frame_text.specs.Lines.{newline}
+use Rattle.frame_text.specs.Frames.{Frame}
+use Rattle.frame_text.specs.Reading.{frameOf}
+use Rattle.frame_text.specs.OutputLines.{refusalText, greyWidth, summaryText, summaryLength, rowLength}
 use Rattle.frame.specs.declared.Answer.{Answer}
-use Rattle.frame.specs.Digits.{hex, hexValue}
-use Rattle.frame.specs.Lines.{newline}
-use Rattle.frame.specs.Frames.{Frame}
-use Rattle.frame.specs.Reading.{frameOf}
-use Rattle.frame.specs.OutputLines.{refusalText, greyWidth, summaryText, summaryLength, rowLength}
 use Rattle.frame.specs.Output.{frameRefusal}
 
 -- after the first line and the rows above, two digits for each of the cells before it

@@ -14,10 +14,10 @@ use Rattle.tile.specs.Questions.{Yes, No, DecidedBy, question1, question4, ques
 use Rattle.integers.specs.Tests.{OneOf}
 use Rattle.tile.specs.Laws.IfDone.{if-refused}
 use Rattle.tile.specs.Laws.FirstNo.{each-number, firstNo-among}
-use Rattle.frame.specs.Over.{over}
-use Rattle.frame.specs.Reading.{question11, frameOf}
-use Rattle.frame.specs.OutputLines.{refusalText}
-use Rattle.frame.specs.Output.{frameQuestions, frameRefusal, frameTable, outputText, tableAfter}
+use Rattle.frame_text.specs.Over.{over}
+use Rattle.frame_text.specs.Reading.{frameOf}
+use Rattle.frame_text.specs.OutputLines.{refusalText}
+use Rattle.frame.specs.Output.{question11, frameQuestions, frameRefusal, frameTable, outputText, tableAfter}
 use Rattle.frame.specs.Laws.RefusalLines.{refusal-decides}
 
 pub record FrameRefusals (t : List ℕ) : Type 0 where

@@ -25,22 +25,22 @@ use Rattle.tile.specs.Faithful as tile-drawn
 use Rattle.tile.specs.Theorem.{faithful}
 use Rattle.tile.specs.Laws.IfDone.{if-refused}
 use Rattle.tile.specs.Laws.FirstNo.{firstNo-zero}
+use Rattle.frame_text.specs.Digits.{hex, hexValue}
+use Rattle.frame_text.specs.Lines.{newline}
+use Rattle.frame_text.specs.Frames.{Frame}
+use Rattle.frame_text.specs.Reading.{frameOf}
+use Rattle.frame_text.specs.OutputLines.{refusalText, rowsText, greyWidth, summaryText, summaryLength}
+use Rattle.frame_text.specs.Laws.Digits.{value-hex}
+use Rattle.frame_text.specs.Laws.Printing.{summary-length, rows-text-length}
+use Rattle.frame_text.specs.Laws.WrittenRead.{read-writable}
+use Rattle.frame_text.specs.Laws.PrintedGreys.{picture-digits, picture-end}
 use Rattle.frame.specs.declared.Answer.{Answer}
-use Rattle.frame.specs.Digits.{hex, hexValue}
-use Rattle.frame.specs.Lines.{newline}
-use Rattle.frame.specs.Frames.{Frame}
-use Rattle.frame.specs.Reading.{frameOf}
-use Rattle.frame.specs.OutputLines.{refusalText, rowsText, greyWidth, summaryText, summaryLength}
 use Rattle.frame.specs.Output.{frameQuestions, frameRefusal, frameTable, frameGreys, drawnText, outputText, zeros, answerOf}
 use Rattle.frame.specs.Refusals.{frame-refusals}
 use Rattle.frame.specs.Printed.{digitsAt, printedGrey, Printed, Answered}
 use Rattle.frame.specs.Inner.{pictureSize, drawNumber, greysDrawn, usedTable, buildNumber}
-use Rattle.frame.specs.Laws.Digits.{value-hex}
-use Rattle.frame.specs.Laws.Printing.{summary-length, rows-text-length}
 use Rattle.frame.specs.Laws.Output.{Drawn, drawn, zeros-length, answer-printed}
-use Rattle.frame.specs.Laws.WrittenRead.{read-writable}
 use Rattle.frame.specs.Laws.FrameNumber.{blank, blank-length, buildQuestions, build-number-is, built-table, draw-number-is}
-use Rattle.frame.specs.Laws.PrintedGreys.{picture-digits, picture-end}
 
 -- what the program's table held does not matter: a blank one stands in for it
 module _ (t : List ℕ) (done : frameRefusal t ≡ 0) where

@@ -1,25 +1,22 @@
 // The tile program as one function, from the bytes that it reads to the bytes that it prints.
 //
-// A text goes through three steps. `reading` asks question 11, and takes a text that passes it apart into a side, a level and an outline. `tile` builds
-// the outline's table and draws the greys of the level. `printing` puts the edge count, the root and the greys, or a refusal, into an answer.
+// A text goes through three steps. `reading` of `frame_text` asks question 11, and takes a text that passes it apart into a side, a level and an outline.
+// `tile` builds the outline's table and draws the greys of the level. `printing` of `frame_text` puts the edge count, the root and the greys, or a refusal,
+// into an answer.
 ghost use mathlib.Core.Path.{_≡_};
 ghost use mathlib.Core.List.{_++_};
 ghost use Prim.Native.Nat.{_*_, _<_, _≤_};
 ghost use lib.ListN.{length, drop};
 ghost use Rattle.integers.specs.Units.{greatestSide};
 ghost use Rattle.accuracy.specs.Outline.{edgeCount};
-ghost use Rattle.frame.specs.OutputLines.{refusalText, summaryText, rowsText};
+ghost use Rattle.frame_text.specs.OutputLines.{refusalText, summaryText, rowsText};
+ghost use Rattle.frame_text.specs.Frames.{frame};
 ghost use Rattle.frame.specs.Inner.{pictureSize, tableText, usedEntries, builtTable, outlineText, frameOutput, frameTableAfter, isDeeper, levelRefusal};
 ghost use Rattle.frame.specs.Output.{tableLength, outputText, tableAfter, answerOf};
-ghost use Rattle.frame.specs.Frames.{frame};
 ghost use Rattle.frame.specs.Printed.{Answered};
-
-mod hex;
-mod printing;
-mod reading;
-
-// The longest text that is a frame. A caller that reads one byte more can tell a text that is too long.
-pub const TEXT_LIMIT: usize = 16384;
+pub use frame_text::TEXT_LIMIT;
+use frame_text::printing;
+use frame_text::reading;
 
 // A table of side 64 has so many entries, and its deepest picture so many greys.
 pub const TABLE_LENGTH: usize = 4096;
@@ -31,6 +28,9 @@ const GREATEST_DEPTH: u32 = 6;
 
 // The longest answer: the line of the edge count and the root, and for each of 64 rows one of 64 greys of two digits.
 pub const ANSWER_LENGTH: usize = 21 + 64 * 129;
+
+// The word before a refusal's number, the number's two digits, and the end of the line.
+const REFUSAL_LENGTH: usize = 11;
 
 // Question 11: is the text that of a frame?
 const NO_FRAME: u32 = 11;
@@ -58,7 +58,7 @@ fn refused(number: u32) -> Answer
     printing::put_refusal(&mut bytes, number);
     Answer {
         bytes,
-        len: printing::REFUSAL_LENGTH,
+        len: REFUSAL_LENGTH,
     }
 }
 

@@ -11,17 +11,18 @@ use borrow.Author.Needs.{needs}
 use borrow.Author.Tests.{not-true, not-false}
 use Rattle.accuracy.specs.Outline.{edgeCount}
 use Rattle.tile.specs.Outcomes.{ifDone}
-use Rattle.frame.specs.Over.{over}
-use Rattle.frame.specs.Frames.{frame}
-use Rattle.frame.specs.Reading.{isFrame, frameOf}
-use Rattle.frame.specs.OutputLines.{refusalText}
+use Rattle.frame_text.specs.Over.{over}
+use Rattle.frame_text.specs.Frames.{frame}
+use Rattle.frame_text.specs.Reading.{isFrame, frameOf}
+use Rattle.frame_text.specs.OutputLines.{refusalText}
+use Rattle.frame_text.specs.Inner.{isBody, bodyCoordinates, bodyCounts, sizeOf, Readable}
+use Rattle.frame_text.specs.Laws.Over.{over-front, over-room}
+use Rattle.frame_text.specs.Laws.Reading.{framed, frame-is}
+use Rattle.frame_text.specs.Laws.WrittenRead.{read-writable}
+use Rattle.frame_text.specs.Laws.Parts.{part-is}
 use Rattle.frame.specs.Output.{frameRefusal, frameTable, drawnText, outputText, answerOf}
 use Rattle.frame.specs.Theorem.{answered}
-use Rattle.frame.specs.Inner.{isBody, bodyCoordinates, bodyCounts, sizeOf, Readable, outlineRefusal, frameOutput, frameTableAfter}
-use Rattle.frame.specs.Laws.Over.{over-front, over-room}
-use Rattle.frame.specs.Laws.Reading.{framed, frame-is}
-use Rattle.frame.specs.Laws.WrittenRead.{read-writable}
-use Rattle.frame.proofs.Parts.{part-is}
+use Rattle.frame.specs.Inner.{outlineRefusal, frameOutput, frameTableAfter}
 use Rattle.frame.proofs.draw.Statement.{statement}
 use Rattle.frame.proofs.draw.Tie as tie
 

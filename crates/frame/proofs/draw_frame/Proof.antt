@@ -5,9 +5,9 @@ use mathlib.Core.List.{List}
 use lib.IntN.{ℤ}
 use borrow.Author.Needs.{needs}
 use Rattle.tile.specs.Laws.IfDone.{if-refused}
-use Rattle.frame.specs.Over.{over}
-use Rattle.frame.specs.Frames.{Frame, frame}
-use Rattle.frame.specs.OutputLines.{refusalText}
+use Rattle.frame_text.specs.Over.{over}
+use Rattle.frame_text.specs.Frames.{Frame, frame}
+use Rattle.frame_text.specs.OutputLines.{refusalText}
 use Rattle.frame.specs.Output.{frameTable, drawnText, answerOf}
 use Rattle.frame.specs.Inner.{outlineRefusal, isDeeper}
 use Rattle.frame.specs.Laws.FrameNumber.{outline-output, outline-table, level-refusal-is, level-refused}

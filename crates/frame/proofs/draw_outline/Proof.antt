@@ -9,8 +9,8 @@ use lib.Seq.{take-at, length-take-le}
 use borrow.Author.Needs.{needs}
 use Rattle.tile.specs.Outcomes.{buildResult, buildTable}
 use Rattle.tile.specs.Laws.IfDone.{if-done, if-refused}
-use Rattle.frame.specs.Frames.{Frame, frame}
-use Rattle.frame.specs.OutputLines.{refusalText}
+use Rattle.frame_text.specs.Frames.{Frame, frame}
+use Rattle.frame_text.specs.OutputLines.{refusalText}
 use Rattle.frame.specs.Inner.{tableText, usedEntries, usedTable, builtTable, buildNumber, edgesBuilt}
 use Rattle.frame.specs.Output.{answerOf}
 use Rattle.frame.specs.Laws.Output.{used-entries-le, build-number-small, built-table-length}

@@ -10,7 +10,7 @@ use borrow.Author.Needs.{needs}
 use Rattle.integers.specs.Bits.{field-is}
 use Rattle.tile.specs.Outcomes.{drawRefusal, greysPicture}
 use Rattle.tile.specs.Laws.IfDone.{if-done, if-refused}
-use Rattle.frame.specs.OutputLines.{refusalText, rowsText, summaryText}
+use Rattle.frame_text.specs.OutputLines.{refusalText, rowsText, summaryText}
 use Rattle.frame.specs.Output.{zeros, answerOf}
 use Rattle.frame.specs.Inner.{pictureSize, drawNumber, greysDrawn, pictureText}
 use Rattle.frame.specs.Laws.Output.{picture-size-le, zeros-length, take-zeros, draw-number-small, Drawn, drawn}

@@ -11,14 +11,14 @@ use mir.Val.{toZ, ofZ}
 use mir.Facts.{toZ-ofZ}
 use borrow.Author.Needs.{needs}
 use borrow.Rule.Slice.PartMut.{putMid}
+use Rattle.frame_text.specs.Over.{over}
+use Rattle.frame_text.specs.OutputLines.{summaryText, rowsText}
+use Rattle.frame_text.specs.Laws.Over.{written, written-length}
+use Rattle.frame_text.specs.Laws.Printing.{summary-length, rows-text-length}
+use Rattle.frame_text.specs.Laws.Parts.{part-over, part-length}
 use Rattle.frame.specs.declared.Answer.{Answer}
-use Rattle.frame.specs.Over.{over}
-use Rattle.frame.specs.OutputLines.{summaryText, rowsText}
 use Rattle.frame.specs.Output.{zeros}
-use Rattle.frame.specs.Laws.Over.{written, written-length}
 use Rattle.frame.specs.Laws.Output.{zeros-length}
-use Rattle.frame.specs.Laws.Printing.{summary-length, rows-text-length}
-use Rattle.frame.proofs.Parts.{part-over, part-length}
 use Rattle.frame.proofs.drawn.Statement.{statement}
 use Rattle.frame.proofs.drawn.Tie as tie
 

@@ -8,7 +8,7 @@ use lib.Seq.{length-take-le}
 use borrow.Author.Needs.{needs}
 use Rattle.tile.specs.Outcomes.{buildRefusal}
 use Rattle.tile.specs.Laws.IfDone.{if-done, if-refused}
-use Rattle.frame.specs.OutputLines.{refusalText}
+use Rattle.frame_text.specs.OutputLines.{refusalText}
 use Rattle.frame.specs.Output.{tableLength, answerOf}
 use Rattle.frame.specs.Inner.{usedEntries}
 use Rattle.frame.specs.Laws.Output.{used-entries-le, build-number-small}

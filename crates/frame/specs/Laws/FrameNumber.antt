@@ -31,9 +31,9 @@ use Rattle.tile.specs.Theorem.{faithful}
 use Rattle.tile.specs.Laws.Sides.{side-le, side-depth, side-power}
 use Rattle.tile.specs.Laws.IfDone.{if-done, if-refused}
 use Rattle.tile.specs.Laws.BuiltTable.{built-is, table-length}
-use Rattle.frame.specs.Over.{over}
-use Rattle.frame.specs.Frames.{Frame}
-use Rattle.frame.specs.OutputLines.{refusalText, summaryText, rowsText}
+use Rattle.frame_text.specs.Over.{over}
+use Rattle.frame_text.specs.Frames.{Frame}
+use Rattle.frame_text.specs.OutputLines.{refusalText, summaryText, rowsText}
 use Rattle.frame.specs.Output.{zeros, tableLength, frameTable, drawnText}
 use Rattle.frame.specs.Inner.{pictureSize, drawNumber, pictureText, tableText, usedEntries, usedTable, buildNumber, builtTable, edgesBuilt, outlineText, outlineRefusal, frameOutput, frameTableAfter, isDeeper, levelRefusal}
 use Rattle.frame.specs.Laws.Output.{used-entries-le, zeros-length}

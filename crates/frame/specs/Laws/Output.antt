@@ -32,11 +32,11 @@ use Rattle.tile.specs.Refusals.{building-refusals, question2-means, refused-tab
 use Rattle.tile.specs.TableEntries.{built-length}
 use Rattle.tile.specs.DrawnFigures.{greys-drawn}
 use Rattle.tile.specs.Laws.Answers.{drawable-picture}
+use Rattle.frame_text.specs.Frames.{Frame}
+use Rattle.frame_text.specs.Laws.Over.{over-front, over-room}
 use Rattle.frame.specs.declared.Answer.{Answer}
-use Rattle.frame.specs.Frames.{Frame}
 use Rattle.frame.specs.Output.{zeros, answerLength, answerOf}
 use Rattle.frame.specs.Inner.{pictureSize, drawNumber, greysDrawn, usedEntries, usedTable, builtTable}
-use Rattle.frame.specs.Laws.Over.{over-front, over-room}
 
 pub picture-size-le : (level : ℕ) → pictureSize level ≤ 4096
 picture-size-le level = go (leb level greatestDepth) refl

@@ -16,12 +16,12 @@ use lib.ListN.{getD}
 use Rattle.accuracy.specs.Outline.{edgeCount}
 use Rattle.tile.specs.Outcomes.{ifDone}
 use Rattle.tile.specs.Laws.IfDone.{if-refused}
-use Rattle.frame.specs.Digits.{indexOf, digitChar, digitValue, isDigit, hex}
-use Rattle.frame.specs.Frames.{Frame}
-use Rattle.frame.specs.Reading.{frameOf}
-use Rattle.frame.specs.OutputLines.{refusalText}
+use Rattle.frame_text.specs.Digits.{indexOf, digitChar, digitValue, isDigit, hex}
+use Rattle.frame_text.specs.Frames.{Frame}
+use Rattle.frame_text.specs.Reading.{frameOf}
+use Rattle.frame_text.specs.OutputLines.{refusalText}
+use Rattle.frame_text.specs.Laws.Digits.{digit-value-char, digit-char-digit}
 use Rattle.frame.specs.Output.{frameQuestions, frameRefusal, drawnText, outputText}
-use Rattle.frame.specs.Laws.Digits.{digit-value-char, digit-char-digit}
 use Rattle.frame.specs.Laws.Output.{first-below}
 
 digit-injective : (m n : ℕ) → m < 16 → n < 16 → digitChar m ≡ digitChar n → m ≡ n
