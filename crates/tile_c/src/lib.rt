@@ -241,9 +241,9 @@ pub extern "C" fn mattuliyan_build_curves(
 {
     let site = Site::Alone(side);
     let moved = placement_of(placement);
-    let built = curves::build_curves(site, points, counts, marks, moved, table);
-    *edges = built.edges;
-    built.number
+    let curved = curves::build_curves(site, points, counts, marks, moved, table);
+    *edges = curved.edges;
+    curved.number
 }
 
 // `curves::put_curves` on a tile alone: `edges` is the record, read and written.
@@ -313,9 +313,9 @@ pub extern "C" fn mattuliyan_build_curves_on_sheet(
     let place = place_of(sheet, side, column, row);
     let site = Site::OnSheet(place);
     let moved = placement_of(placement);
-    let built = curves::build_curves(site, points, counts, marks, moved, table);
-    *edges = built.edges;
-    built.number
+    let crossing = curves::build_curves(site, points, counts, marks, moved, table);
+    *edges = crossing.edges;
+    crossing.number
 }
 
 // `curves::put_curves` on a sheet: `edges` is the record, read and written.
