@@ -6,17 +6,20 @@
 --   chordPoint c i               the ends of its chords, number 0 to 2^k
 --   chordsOf s                   the edges of a side
 --   contourChords, outlineChords those of a contour, and of an outline
+use mathlib.Core.Path.{_≡_, refl}
 use mathlib.Core.List.{List, [], _∷_}
-use Prim.Native.Nat.{ℕ, suc, _^_}
-use Rattle.integers.specs.ListSum.{joined}
+use Prim.Native.Nat.{ℕ, suc, _+_, _^_}
+use lib.ListN.{length}
+use lib.IntN.{pos}
+use Rattle.integers.specs.ListSum.{tally, joined}
 use Rattle.edge.specs.declared.Edge.{Edge}
-use Rattle.curve.specs.Curve.{bend, splits, chordEnd}
+use Rattle.curve.specs.Curve.{bend, splitsFrom, splits, chordEnd}
 use Rattle.haar.specs.Pictures.{tabulate}
 use Rattle.accuracy.specs.Outline.{Point, edgeBetween}
 use Rattle.chords.specs.declared.Curve.{Curve}
 use Rattle.chords.specs.declared.Side.{Side}
 use Rattle.chords.specs.declared.Side.the-variants.{Straight, Curved}
-use Rattle.chords.specs.Sides.{MarkedContour, sidesOf}
+use Rattle.chords.specs.Sides.{sidesFrom, MarkedContour, markedContour, sidesOf}
 
 -- one k for both coordinates
 abbrev pub splitsOf : Curve → ℕ
@@ -35,3 +38,10 @@ contourChords c = joined chordsOf (sidesOf c)
 
 abbrev pub outlineChords : List MarkedContour → List Edge
 outlineChords cs = joined contourChords cs
+
+-- A check, by computing: two straight edges, and the curve that closes the contour, with its control point at the end of the coordinates. Its bend is −512
+-- across, so it has 16 chords, and not one.
+closing-curve :
+    length (contourChords (markedContour (0 ∷ 0 ∷ 1 ∷ []) (pos 0 ∷ pos 0 ∷ pos 256 ∷ pos 0 ∷ pos 0 ∷ pos 256 ∷ pos 256 ∷ pos 256 ∷ []))) ≡ 2 + 16
+unfolding tally joined sidesFrom chordsOf splitsFrom tabulate
+closing-curve = refl
