@@ -1,9 +1,9 @@
--- "Calls without marks stay as they were." With every mark 0, the edges are those of the outline without marks, one for one and in order.
+-- With every mark 0, the edges are those of the outline without marks, one for one and in order.
 --
 -- Main results
 --   straight-contour             of a contour
 --   straight-outline             of an outline
---   zeros-numbers, zeros-take    two numbers for each mark; the first of marks that are all 0
+--   zeros-numbers, zeros-take    how many numbers marks that are all 0 ask for; the first n of them
 use mathlib.Core.Path.{_≡_, refl, sym, _∙_, ap, ap₂}
 use mathlib.Core.List.{List, [], _∷_, _++_}
 use Prim.Native.Nat.{ℕ, zero, suc, _+_, _*_}

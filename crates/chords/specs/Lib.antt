@@ -6,7 +6,7 @@ pub mod Sides
 pub mod Chords
 -- ---- "no chord leaves its curve by more than one step", of every curve of an outline
 pub mod NearCurves
--- ---- "Calls without marks stay as they were": with every mark 0 the edges are 01's
+-- ---- with every mark 0 the edges are 01's
 pub mod AllStraight
 -- ---- what inner functions answer
 pub mod Inner

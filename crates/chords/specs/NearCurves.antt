@@ -1,10 +1,11 @@
 -- "It is proved that before this rounding no chord leaves its curve by more than one step in x or y", of every curve of an outline on a sheet.
 --
 -- Definitions
---   NearChords s                 the chords of a side are near it: nothing is asked of a straight one, which is its own
+--   NearChords s                 the chords of a side are near it: nothing is asked of a straight one, which is its own chord
 --   outlineSides cs              the sides of an outline
 -- Main results
---   sides-near                   so they are of every side of an outline whose coordinates, control points' too, are on a sheet
+--   side-near                    so they are of a side whose coordinates are on a sheet
+--   sides-near                   and so they are of every side of an outline whose coordinates, control points' too, are on a sheet
 use mathlib.Core.List.{List, [], _∷_}
 use Rattle.integers.specs.ListSum.{All, all-map, joined}
 use Rattle.curve.specs.ChordsNear.{ChordsNear, curve-near}
@@ -22,7 +23,7 @@ NearChords (Curved c) = ChordsNear (c .x0) (c .cx) (c .x1) (splitsOf c) × Chord
 abbrev pub outlineSides : List MarkedContour → List Side
 outlineSides cs = joined sidesOf cs
 
-side-near : (s : Side) → SideWithin OnSheet s → NearChords s
+pub side-near : (s : Side) → SideWithin OnSheet s → NearChords s
 side-near (Straight e) h = tt
 side-near (Curved c) h =
     curve-near (h .0) (h .1) (h .2) (h .3) (h .4) (h .5)

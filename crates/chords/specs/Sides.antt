@@ -53,7 +53,7 @@ pub record MarkedContour : Type 0 where
 abbrev pub markedContour : List ℕ → List ℤ → MarkedContour
 markedContour marks coordinates = record { marks = marks; coordinates = coordinates }
 
--- "Its last point joins its first."
+-- its last side ends where its first begins
 abbrev pub sidesOf : MarkedContour → List Side
 sidesOf c = sidesFrom (pointAt (c .coordinates) 0) (c .marks) (c .coordinates)
 

@@ -7,7 +7,7 @@
 --   amendRefusal, amended        the number, and the tile afterwards
 --   Amendable                    what the questions about the contour have answered, of a contour with marks
 -- Main results
---   corrected-amended            what a call on a contour of points does is this
+--   same-questions               what a call on a contour of points asks last are these
 use mathlib.Core.Path.{_≡_, refl}
 use mathlib.Core.List.{List, [], _∷_}
 use Prim.Native.Nat.{ℕ, _+_, _≤_}
@@ -26,7 +26,7 @@ use Rattle.tile.specs.Outcomes.{ifDone}
 use Rattle.sheet.specs.declared.Site.{Site}
 use Rattle.sheet.specs.Sites.{tileSide, reach, SiteYes, entriesAt}
 use Rattle.corrections.specs.declared.Change.{Change}
-use Rattle.corrections.specs.Corrections.{Tile, Call, tileOf, contourOf, signOf, question13, question9Twice, alreadyIn, takenOut, tileQuestions, edgesAfter, correctRefusal, corrected}
+use Rattle.corrections.specs.Corrections.{Tile, Call, tileOf, contourOf, signOf, question13, question9Twice, alreadyIn, takenOut, tileQuestions, edgesAfter}
 
 abbrev pub leftBy : Site → Change → List Edge → List ℤ → List ℤ
 leftBy site change es table = added table (λ i. signOf change *ℤ getD (entriesAt site es) i (pos 0))
@@ -51,6 +51,6 @@ pub record Amendable (site : Site) (change : Change) (points : List ℤ) (marks 
   pub counted : n ≡ length (contourChords (markedContour marks (placed placement points)))
   pub few : alreadyIn change (t .edges) + n ≤ mostEdges
 
--- a contour of points, by its edges: the same questions, and the same tile
+-- a contour of points, by its edges
 pub same-questions : (k : Call) (t : Tile) → amendQuestions (k .site) (k .change) (contourEdges (contourOf k)) (k .count) t ≡ tileQuestions k t
 same-questions k t = refl

@@ -1,6 +1,7 @@
-// A contour put into a tile, or taken out again (02, P3), the tile lying alone or on a sheet (P5): four calls, and one function that does all of it.
+// A contour put into a tile, or taken out again (02, P3), the tile lying alone or on a sheet (P5): four calls, and one function, `amend`, that changes the tile,
+// for contours of points here and for contours with curved edges in `curves`.
 //
-// A tile is a table with the record of its edge count. None of the calls asks anything of its caller; a refused one changes nothing.
+// A tile is a table with the record of its edge count. None of the four calls asks anything of its caller; a refused one changes nothing.
 //
 // All questions but one are asked before anything is written. The last, whether the table that would be left is in range, is asked of the table once the
 // change is made; where it is not in range the change is undone, and every entry is what it was. So no copy of the table is kept.

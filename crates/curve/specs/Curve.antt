@@ -9,7 +9,7 @@
 --   chordNum p q r n i b a       n² b times where chord i of n is, a / b of its way along, before its ends are rounded
 --   bendLimit k                  4 × 4^k
 --   IsFlat k z, flat k z         z is at most that in magnitude
---   splits u v                   k: the least from 0 to 7 for which both bends are flat
+--   splits u v                   k: the least from 0 to 7 for which both bends are flat, and 7 where none is, which on a sheet does not happen
 --   chordEnd p q r k i           end i of the 2^k chords, rounded to the nearest step, halves towards the larger
 use mathlib.Core.Path.{_≡_, refl}
 use mathlib.Core.Bool.{Bool, _&&_, cond}
@@ -45,7 +45,7 @@ IsFlat k z = Within (pos (bendLimit k)) z
 abbrev pub flat : ℕ → ℤ → Bool
 flat k z = between (negℤ (pos (bendLimit k))) (pos (bendLimit k)) z
 
--- the least from k on, of at most m more
+-- the least from k on, of at most m more; the last of them where none is flat
 unfoldable pub splitsFrom : ℕ → ℕ → ℤ → ℤ → ℕ
 splitsFrom zero k u v = k
 splitsFrom (suc m) k u v = cond (flat k u && flat k v) k (splitsFrom m (suc k) u v)
@@ -66,7 +66,7 @@ half-up : chordEnd (pos 0) (pos 0) (pos 6) 1 1 ≡ pos 2
 unfolding roundHalfUp floor
 half-up = refl
 
--- A bend of 4 needs one chord, and of 5, either way and in either coordinate, two. 7 splits are needed from one side of the greatest sheet to the other and back.
+-- A bend of 4 either way needs one chord, and one of 5 two. 7 splits are needed from one side of the greatest sheet to the other and back.
 one-chord : splits (pos 4) (negℤ (pos 4)) ≡ 0
 unfolding splitsFrom
 one-chord = refl

@@ -19,7 +19,7 @@ const MOST_SPLITS: usize = 7;
 // A bend of four steps, either way, leaves a single chord at most one step from its curve.
 const BEND_OF_ONE_CHORD: i64 = 4;
 
-// How far the curve turns away from its chord: 0 for a straight one that is walked evenly.
+// Four times how far the middle of the curve is from the middle of its chord: 0 for a straight one that is walked evenly.
 pub fn bend(p: i64, q: i64, r: i64) -> i64
     requires { ⌜ OnSheet p × OnSheet q × OnSheet r ⌝ }
     ensures { λ z. ⌜ z ≡ bendOf p q r ⌝ }

@@ -10,8 +10,9 @@
 --   writtenPoints, writtenCounts,
 --   writtenMarks                 contours written as an outline, as building takes it
 --   HoldsCurves site cs t        the tile t, at that site, holds the contours cs
+--   NearContour                  the distance, of the curved edges of a call that is not refused
 --   HoldsOneMoreCurve,
---   HoldsOneLessCurve            what is promised of putting in and of taking out
+--   HoldsOneLessCurve            what is promised of putting in and of taking out, on a tile that holds contours
 use mathlib.Core.Path.{_≡_}
 use mathlib.Core.Bool.{Bool, true}
 use mathlib.Core.List.{List, _∷_, map, Perm}
@@ -21,7 +22,7 @@ use lib.IntN.{ℤ}
 use Rattle.integers.specs.ListSum.{All, joined}
 use Rattle.integers.specs.Tests.{every}
 use Rattle.placement.specs.declared.Placement.the-variants.{None}
-use Rattle.chords.specs.Sides.{MarkedContour, markedContour}
+use Rattle.chords.specs.Sides.{MarkedContour, markedContour, sidesOf}
 use Rattle.chords.specs.Chords.{outlineChords}
 use Rattle.chords.specs.NearCurves.{NearChords, outlineSides}
 use Rattle.tile.specs.Written.{Contour, coordinatesOf}
@@ -63,7 +64,11 @@ pub record HoldsCurves (site : Site) (cs : List MarkedContour) (t : Tile) : Type
   -- and the chords are near their curves
   pub near-curves : All NearChords (outlineSides cs)
 
--- ---- what is promised of a call: `before` and `after` are the tile as it was and as it is then
+-- ---- what is promised of a call, on whatever tile: "no chord leaves its curve by more than one step in x or y"
+abbrev pub NearContour : CurveCall → Tile → Type 0
+NearContour k before = correctCurveRefusal k before ≡ 0 → All NearChords (sidesOf (contourIn k))
+
+-- ---- and on a tile that holds contours: `before` and `after` are the tile as it was and as it is then
 abbrev pub HoldsOneMoreCurve : CurveCall → Tile → Tile → Type 0
 HoldsOneMoreCurve k before after =
     (cs : List MarkedContour) → HoldsCurves (k .site) cs before → correctCurveRefusal k before ≡ 0 → HoldsCurves (k .site) (contourIn k ∷ cs) after

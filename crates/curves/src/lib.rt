@@ -17,7 +17,7 @@ ghost use Rattle.curves.specs.CurveOutcomes.{refusal, markedResult, curv
 ghost use Rattle.curves.specs.FaithfulCurves.{FaithfulCurves};
 ghost use Rattle.corrections.specs.Corrections.{tileOf};
 ghost use Rattle.curves.specs.CurvedCorrections.{curveCallOf, puttingCurve, takingCurve, correctCurveRefusal, correctedCurve};
-ghost use Rattle.curves.specs.CurvedHolding.{HoldsOneMoreCurve, HoldsOneLessCurve};
+ghost use Rattle.curves.specs.CurvedHolding.{NearContour, HoldsOneMoreCurve, HoldsOneLessCurve};
 use corrections::Change;
 use placement::Placement;
 use sheet::Site;
@@ -42,7 +42,7 @@ const MOST_EDGES: usize = 1024;
 // The numbers of refusals. Question 3: are there as many coordinates as the marks ask for?
 const NO_POINTS: u32 = 3;
 
-// Question 4: is every count one of a contour?
+// Question 4: is every count from 3 to 1,024?
 const NO_COUNT: u32 = 4;
 
 // Question 5: are the chords, with the edges that are in already, at most the most edges?
@@ -117,8 +117,8 @@ fn is_size(marks: &[u8], size: usize) -> bool
     left == 0
 }
 
-// The questions about an outline with marks, beside `already` edges that are in the table: the first "no" and 0, or 0 and the number of chords. Question 6 reads
-// the side `reach`, which is one of a sheet or of a tile.
+// The questions about an outline with marks, beside `already` edges that are in the table: the first "no" and 0, or 0 and the number of edges that it is
+// drawn as. Question 6 reads the side `reach`, which is one of a sheet or of a tile.
 pub fn marked_refusal(
     reach: u32,
     points: &[i64],
@@ -256,6 +256,7 @@ pub fn put_curves(
     ensures { λ r. ⌜ r ≡ correctCurveRefusal (puttingCurve site (now (points .entry)) count (now (marks .entry)) placement) (tileOf (now (table .entry)) (now (edges .entry))) ⌝ }
     ensures { λ _. ⌜ now (edges .exit) ≡ correctedCurve (puttingCurve site (now (points .entry)) count (now (marks .entry)) placement) (tileOf (now (table .entry)) (now (edges .entry))) .edges ⌝ }
     ensures { λ _. ⌜ now (table .exit) ≡ correctedCurve (puttingCurve site (now (points .entry)) count (now (marks .entry)) placement) (tileOf (now (table .entry)) (now (edges .entry))) .table ⌝ }
+    ensures { λ _. ⌜ NearContour (puttingCurve site (now (points .entry)) count (now (marks .entry)) placement) (tileOf (now (table .entry)) (now (edges .entry))) ⌝ }
     ensures { λ _. ⌜ HoldsOneMoreCurve (puttingCurve site (now (points .entry)) count (now (marks .entry)) placement) (tileOf (now (table .entry)) (now (edges .entry))) (tileOf (now (table .exit)) (now (edges .exit))) ⌝ }
     ensures { λ _. ⌜ (now (points .exit) ≡ now (points .entry)) × (now (marks .exit) ≡ now (marks .entry)) ⌝ }
 {
@@ -285,6 +286,7 @@ pub fn take_curves(
     ensures { λ r. ⌜ r ≡ correctCurveRefusal (takingCurve site (now (points .entry)) count (now (marks .entry)) placement) (tileOf (now (table .entry)) (now (edges .entry))) ⌝ }
     ensures { λ _. ⌜ now (edges .exit) ≡ correctedCurve (takingCurve site (now (points .entry)) count (now (marks .entry)) placement) (tileOf (now (table .entry)) (now (edges .entry))) .edges ⌝ }
     ensures { λ _. ⌜ now (table .exit) ≡ correctedCurve (takingCurve site (now (points .entry)) count (now (marks .entry)) placement) (tileOf (now (table .entry)) (now (edges .entry))) .table ⌝ }
+    ensures { λ _. ⌜ NearContour (takingCurve site (now (points .entry)) count (now (marks .entry)) placement) (tileOf (now (table .entry)) (now (edges .entry))) ⌝ }
     ensures { λ _. ⌜ HoldsOneLessCurve (takingCurve site (now (points .entry)) count (now (marks .entry)) placement) (tileOf (now (table .entry)) (now (edges .entry))) (tileOf (now (table .exit)) (now (edges .exit))) ⌝ }
     ensures { λ _. ⌜ (now (points .exit) ≡ now (points .entry)) × (now (marks .exit) ≡ now (marks .entry)) ⌝ }
 {

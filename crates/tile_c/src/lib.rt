@@ -14,7 +14,7 @@ ghost use Rattle.sheet.specs.declared.Site.the-variants.{Alone, OnSheet};
 ghost use Rattle.curves.specs.CurveOutcomes.{curvesResult, curvesTable};
 ghost use Rattle.curves.specs.FaithfulCurves.{FaithfulCurves};
 ghost use Rattle.curves.specs.CurvedCorrections.{puttingCurve, takingCurve, correctCurveRefusal, correctedCurve};
-ghost use Rattle.curves.specs.CurvedHolding.{HoldsOneMoreCurve, HoldsOneLessCurve};
+ghost use Rattle.curves.specs.CurvedHolding.{NearContour, HoldsOneMoreCurve, HoldsOneLessCurve};
 ghost use Rattle.tile_c.specs.PlacementNumbers.{placementOf};
 use placement::Matrix;
 use placement::Placement;
@@ -260,6 +260,7 @@ pub extern "C" fn mattuliyan_put_curves(
     ensures { λ r. ⌜ r ≡ correctCurveRefusal (puttingCurve (Alone side) (now (points .entry)) count (now (marks .entry)) (placementOf (now (placement .entry)))) (tileOf (now (table .entry)) (now (edges .entry))) ⌝ }
     ensures { λ _. ⌜ now (edges .exit) ≡ correctedCurve (puttingCurve (Alone side) (now (points .entry)) count (now (marks .entry)) (placementOf (now (placement .entry)))) (tileOf (now (table .entry)) (now (edges .entry))) .edges ⌝ }
     ensures { λ _. ⌜ now (table .exit) ≡ correctedCurve (puttingCurve (Alone side) (now (points .entry)) count (now (marks .entry)) (placementOf (now (placement .entry)))) (tileOf (now (table .entry)) (now (edges .entry))) .table ⌝ }
+    ensures { λ _. ⌜ NearContour (puttingCurve (Alone side) (now (points .entry)) count (now (marks .entry)) (placementOf (now (placement .entry)))) (tileOf (now (table .entry)) (now (edges .entry))) ⌝ }
     ensures { λ _. ⌜ HoldsOneMoreCurve (puttingCurve (Alone side) (now (points .entry)) count (now (marks .entry)) (placementOf (now (placement .entry)))) (tileOf (now (table .entry)) (now (edges .entry))) (tileOf (now (table .exit)) (now (edges .exit))) ⌝ }
     ensures { λ _. ⌜ (now (points .exit) ≡ now (points .entry)) × (now (marks .exit) ≡ now (marks .entry)) × (now (placement .exit) ≡ now (placement .entry)) ⌝ }
 {
@@ -282,6 +283,7 @@ pub extern "C" fn mattuliyan_take_curves(
     ensures { λ r. ⌜ r ≡ correctCurveRefusal (takingCurve (Alone side) (now (points .entry)) count (now (marks .entry)) (placementOf (now (placement .entry)))) (tileOf (now (table .entry)) (now (edges .entry))) ⌝ }
     ensures { λ _. ⌜ now (edges .exit) ≡ correctedCurve (takingCurve (Alone side) (now (points .entry)) count (now (marks .entry)) (placementOf (now (placement .entry)))) (tileOf (now (table .entry)) (now (edges .entry))) .edges ⌝ }
     ensures { λ _. ⌜ now (table .exit) ≡ correctedCurve (takingCurve (Alone side) (now (points .entry)) count (now (marks .entry)) (placementOf (now (placement .entry)))) (tileOf (now (table .entry)) (now (edges .entry))) .table ⌝ }
+    ensures { λ _. ⌜ NearContour (takingCurve (Alone side) (now (points .entry)) count (now (marks .entry)) (placementOf (now (placement .entry)))) (tileOf (now (table .entry)) (now (edges .entry))) ⌝ }
     ensures { λ _. ⌜ HoldsOneLessCurve (takingCurve (Alone side) (now (points .entry)) count (now (marks .entry)) (placementOf (now (placement .entry)))) (tileOf (now (table .entry)) (now (edges .entry))) (tileOf (now (table .exit)) (now (edges .exit))) ⌝ }
     ensures { λ _. ⌜ (now (points .exit) ≡ now (points .entry)) × (now (marks .exit) ≡ now (marks .entry)) × (now (placement .exit) ≡ now (placement .entry)) ⌝ }
 {
@@ -335,6 +337,7 @@ pub extern "C" fn mattuliyan_put_curves_on_sheet(
     ensures { λ r. ⌜ r ≡ correctCurveRefusal (puttingCurve (OnSheet (tileAt sheet side column row)) (now (points .entry)) count (now (marks .entry)) (placementOf (now (placement .entry)))) (tileOf (now (table .entry)) (now (edges .entry))) ⌝ }
     ensures { λ _. ⌜ now (edges .exit) ≡ correctedCurve (puttingCurve (OnSheet (tileAt sheet side column row)) (now (points .entry)) count (now (marks .entry)) (placementOf (now (placement .entry)))) (tileOf (now (table .entry)) (now (edges .entry))) .edges ⌝ }
     ensures { λ _. ⌜ now (table .exit) ≡ correctedCurve (puttingCurve (OnSheet (tileAt sheet side column row)) (now (points .entry)) count (now (marks .entry)) (placementOf (now (placement .entry)))) (tileOf (now (table .entry)) (now (edges .entry))) .table ⌝ }
+    ensures { λ _. ⌜ NearContour (puttingCurve (OnSheet (tileAt sheet side column row)) (now (points .entry)) count (now (marks .entry)) (placementOf (now (placement .entry)))) (tileOf (now (table .entry)) (now (edges .entry))) ⌝ }
     ensures { λ _. ⌜ HoldsOneMoreCurve (puttingCurve (OnSheet (tileAt sheet side column row)) (now (points .entry)) count (now (marks .entry)) (placementOf (now (placement .entry)))) (tileOf (now (table .entry)) (now (edges .entry))) (tileOf (now (table .exit)) (now (edges .exit))) ⌝ }
     ensures { λ _. ⌜ (now (points .exit) ≡ now (points .entry)) × (now (marks .exit) ≡ now (marks .entry)) × (now (placement .exit) ≡ now (placement .entry)) ⌝ }
 {
@@ -361,6 +364,7 @@ pub extern "C" fn mattuliyan_take_curves_on_sheet(
     ensures { λ r. ⌜ r ≡ correctCurveRefusal (takingCurve (OnSheet (tileAt sheet side column row)) (now (points .entry)) count (now (marks .entry)) (placementOf (now (placement .entry)))) (tileOf (now (table .entry)) (now (edges .entry))) ⌝ }
     ensures { λ _. ⌜ now (edges .exit) ≡ correctedCurve (takingCurve (OnSheet (tileAt sheet side column row)) (now (points .entry)) count (now (marks .entry)) (placementOf (now (placement .entry)))) (tileOf (now (table .entry)) (now (edges .entry))) .edges ⌝ }
     ensures { λ _. ⌜ now (table .exit) ≡ correctedCurve (takingCurve (OnSheet (tileAt sheet side column row)) (now (points .entry)) count (now (marks .entry)) (placementOf (now (placement .entry)))) (tileOf (now (table .entry)) (now (edges .entry))) .table ⌝ }
+    ensures { λ _. ⌜ NearContour (takingCurve (OnSheet (tileAt sheet side column row)) (now (points .entry)) count (now (marks .entry)) (placementOf (now (placement .entry)))) (tileOf (now (table .entry)) (now (edges .entry))) ⌝ }
     ensures { λ _. ⌜ HoldsOneLessCurve (takingCurve (OnSheet (tileAt sheet side column row)) (now (points .entry)) count (now (marks .entry)) (placementOf (now (placement .entry)))) (tileOf (now (table .entry)) (now (edges .entry))) (tileOf (now (table .exit)) (now (edges .exit))) ⌝ }
     ensures { λ _. ⌜ (now (points .exit) ≡ now (points .entry)) × (now (marks .exit) ≡ now (marks .entry)) × (now (placement .exit) ≡ now (placement .entry)) ⌝ }
 {

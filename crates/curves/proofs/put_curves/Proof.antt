@@ -5,7 +5,7 @@ use borrow.Author.Needs.{needs}
 use Rattle.corrections.specs.Corrections.{tileOf}
 use Rattle.curves.specs.CurvedCorrections.{puttingCurve, contourIn}
 use Rattle.curves.specs.CurvedHolding.{HoldsCurves}
-use Rattle.curves.specs.Laws.CurvedKept.{holds-put-curve}
+use Rattle.curves.specs.Laws.CurvedKept.{contour-near, holds-put-curve}
 use Rattle.curves.proofs.put_curves.Statement.{statement}
 use Rattle.curves.proofs.put_curves.Tie as tie
 
@@ -20,10 +20,10 @@ returns c =
         ap (λ t. t .edges) e,
         (
           ap (λ t. t .table) e,
-          (
+          (contour-near k t, (
             λ cs h done. subst⁻¹ (HoldsCurves (s .args .site) (contourIn k ∷ cs)) e (holds-put-curve k t done refl h),
             (refl, refl),
-          ),
+          )),
         ),
       ),
     )

@@ -3,6 +3,7 @@
 -- Main results
 --   one-contour                  the outline of a single contour that is accepted has the contour's edges
 --   AcceptedCurve, curve-accepted     the answers of a call that is not refused
+--   curve-room, contour-near     there is room for its edges; and its chords are near their curves
 --   corrected-curve-is           the tile that it leaves
 --   holds-put-curve,
 --   holds-taken-curve            what that holds
@@ -19,13 +20,16 @@ use lib.ListN.{length, take}
 use lib.Seq.{take-all}
 use lib.IntN.{ℤ}
 use Rattle.integers.specs.Units.{mostEdges}
-use Rattle.integers.specs.ListSum.{All, all-front, all-back, all-append, tally, joined}
+use Rattle.integers.specs.ListSum.{All, all-map, all-front, all-back, all-append, tally, joined}
 use Rattle.integers.specs.Tests.{every, and-true-means}
 use Rattle.placement.specs.declared.Placement.{Placement}
 use Rattle.placement.specs.Placed.{placed}
 use Rattle.placement.specs.Laws.PlacedPoints.{placed-length}
 use Rattle.accuracy.specs.Outline.{edgeCount}
-use Rattle.chords.specs.Sides.{numbers, MarkedContour, markedContour, markedContours}
+use Rattle.curve.specs.Curve.{OnSheet as CoordinateOnSheet}
+use Rattle.chords.specs.Sides.{numbers, MarkedContour, markedContour, sidesOf, markedContours}
+use Rattle.chords.specs.NearCurves.{NearChords, side-near}
+use Rattle.chords.specs.Laws.SidesWithin.{contour-within}
 use Rattle.chords.specs.Chords.{contourChords, outlineChords}
 use Rattle.tile.specs.Questions.{Question, Yes, firstNo, question4, question6}
 use Rattle.tile.specs.Refusals.{question2-means}
@@ -124,6 +128,9 @@ module _ (k : CurveCall) (t : Tile) where
       where
         marks-yes : Yes (question16 (k .count ∷ []) (k .marks)) → every isMark (k .marks) ≡ true
         marks-yes e = and-true-means (every isMark (k .marks)) (eqb (length (k .marks)) (edgeCount (k .count ∷ []))) .0 e .0
+
+    pub contour-near : All NearChords (sidesOf (contourIn k))
+    contour-near = all-map side-near (sidesOf (contourIn k)) (contour-within CoordinateOnSheet (contourIn k) (placed-length (k .placement) (k .points) ∙ a .points-length, a .on-sheet))
 
     pub corrected-curve-is : (c : Change) → k .change ≡ c
         → correctedCurve k t ≡ tileOf (leftBy (k .site) c (edgesIn k) (t .table)) (edgesAfter c (length (edgesIn k)) (t .edges))

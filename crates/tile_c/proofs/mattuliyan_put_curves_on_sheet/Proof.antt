@@ -6,7 +6,7 @@ use Rattle.sheet.specs.declared.SheetTile.{SheetTile}
 use Rattle.sheet.specs.declared.Site.the-variants.{OnSheet}
 use Rattle.corrections.specs.Corrections.{tileOf}
 use Rattle.curves.specs.CurvedCorrections.{CurveCall, puttingCurve, correctCurveRefusal, correctedCurve}
-use Rattle.curves.specs.CurvedHolding.{HoldsOneMoreCurve}
+use Rattle.curves.specs.CurvedHolding.{NearContour, HoldsOneMoreCurve}
 use Rattle.tile_c.proofs.mattuliyan_put_curves_on_sheet.Statement.{statement}
 use Rattle.tile_c.proofs.mattuliyan_put_curves_on_sheet.Tie as tie
 
@@ -19,11 +19,12 @@ returns c =
     let is-placement = c .before .before .before .before .placement-of .ensures in
     let called = c .before .put-curves .ensures in
     let held = subst₂ (λ (q : SheetTile) (p : Placement). HoldsOneMoreCurve (k q p) t (tileOf (c .before .put-curves .last .1 .1 .1 .1 .1 .1 .0) (c .before .put-curves .last .1 .1 .1 .1 .1 .0))) is-place is-placement
-    (called .1 .1 .1 .0) in (
+    (called .1 .1 .1 .1 .0) in
+    let near = subst₂ (λ (q : SheetTile) (p : Placement). NearContour (k q p) t) is-place is-placement (called .1 .1 .1 .0) in (
       called .0 ∙ ap₂ (λ (q : SheetTile) (p : Placement). correctCurveRefusal (k q p) t) is-place is-placement,
       (
         called .1 .0 ∙ ap₂ (λ (q : SheetTile) (p : Placement). correctedCurve (k q p) t .edges) is-place is-placement,
-        (called .1 .1 .0 ∙ ap₂ (λ (q : SheetTile) (p : Placement). correctedCurve (k q p) t .table) is-place is-placement, (held, (refl, refl, refl))),
+        (called .1 .1 .0 ∙ ap₂ (λ (q : SheetTile) (p : Placement). correctedCurve (k q p) t .table) is-place is-placement, (near, (held, (refl, refl, refl)))),
       ),
     )
 

@@ -5,7 +5,7 @@ use Rattle.placement.specs.declared.Placement.{Placement}
 use Rattle.sheet.specs.declared.Site.the-variants.{Alone}
 use Rattle.corrections.specs.Corrections.{tileOf}
 use Rattle.curves.specs.CurvedCorrections.{CurveCall, takingCurve, correctCurveRefusal, correctedCurve}
-use Rattle.curves.specs.CurvedHolding.{HoldsOneLessCurve}
+use Rattle.curves.specs.CurvedHolding.{NearContour, HoldsOneLessCurve}
 use Rattle.tile_c.proofs.mattuliyan_take_curves.Statement.{statement}
 use Rattle.tile_c.proofs.mattuliyan_take_curves.Tie as tie
 
@@ -17,11 +17,12 @@ returns c =
     let is-placement = c .before .before .before .before .placement-of .ensures in
     let called = c .before .take-curves .ensures in
     let held = subst (λ (p : Placement). HoldsOneLessCurve (k p) t (tileOf (c .before .take-curves .last .1 .1 .1 .1 .1 .1 .0) (c .before .take-curves .last .1 .1 .1 .1 .1 .0))) is-placement
-    (called .1 .1 .1 .0) in (
+    (called .1 .1 .1 .1 .0) in
+    let near = subst (λ (p : Placement). NearContour (k p) t) is-placement (called .1 .1 .1 .0) in (
       called .0 ∙ ap (λ (p : Placement). correctCurveRefusal (k p) t) is-placement,
       (
         called .1 .0 ∙ ap (λ (p : Placement). correctedCurve (k p) t .edges) is-placement,
-        (called .1 .1 .0 ∙ ap (λ (p : Placement). correctedCurve (k p) t .table) is-placement, (held, (refl, refl, refl))),
+        (called .1 .1 .0 ∙ ap (λ (p : Placement). correctedCurve (k p) t .table) is-placement, (near, (held, (refl, refl, refl)))),
       ),
     )
 
