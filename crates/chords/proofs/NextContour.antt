@@ -10,14 +10,13 @@
 --   own-has                      what all placed coordinates have, its own have
 use mathlib.Core.Path.{_≡_, refl, sym, _∙_, ap, ap₂, subst⁻¹}
 use mathlib.Core.List.{List, [], _∷_, _++_}
-use Prim.Native.Nat.{ℕ, suc, _+_, _*_, _-_, _/_, _<_, _≤_}
+use Prim.Native.Nat.{ℕ, _+_, _*_, _-_, _/_, _<_, _≤_}
 use native.Mathlib.Omega.{arith}
 use native.Mathlib.Numerals.{add-one}
 use lib.ListN.{length, getD, take, drop, length-drop, drop-of-length-le}
 use lib.Seq.{drop-cons, drop-drop, length-take-le}
 use lib.IntN.{ℤ}
 use Rattle.integers.specs.ListSum.{All, all-take, all-drop, tally, joined}
-use Rattle.edge.specs.declared.Edge.{Edge}
 use Rattle.accuracy.specs.Outline.{edgeCount}
 use Rattle.placement.specs.declared.Placement.{Placement}
 use Rattle.placement.specs.Placed.{placed}

@@ -11,19 +11,19 @@
 use mathlib.Core.Path.{_≡_, refl, sym, _∙_, ap, ap₂, subst}
 use mathlib.Core.Bool.{Bool, true, false, cond}
 use mathlib.Core.List.{List, [], _∷_, _++_}
-use Prim.Native.Nat.{ℕ, suc, _+_, _*_, _/_, _<_, _≤_}
+use Prim.Native.Nat.{ℕ, _+_, _*_, _/_, _<_, _≤_}
 use native.Mathlib.Omega.{arith}
 use native.Mathlib.Numerals.{add-one}
 use borrow.Author.Tests.{lt-ltb, le-ltb}
-use lib.Dec.{eqb, ltb}
+use lib.Dec.{eqb}
 use lib.ListN.{length, getD, drop, drop-of-length-le, length-drop}
 use lib.Seq.{drop-cons, drop-drop, getD-drop}
 use lib.IntN.{ℤ, pos}
 use Rattle.integers.specs.ListSum.{All, all-drop, all-entry, tally, joined}
-use Rattle.accuracy.specs.Outline.{Point, pointAt, edgeBetween}
+use Rattle.accuracy.specs.Outline.{pointAt, edgeBetween}
 use Rattle.chords.specs.declared.Side.{Side}
 use Rattle.chords.specs.declared.Side.the-variants.{Straight, Curved}
-use Rattle.chords.specs.Sides.{numbersOf, numbers, curveBetween, sideTo, startOr, sidesFrom, MarkedContour, markedContour, sidesOf}
+use Rattle.chords.specs.Sides.{numbersOf, numbers, curveBetween, startOr, sidesFrom}
 use Rattle.chords.specs.Chords.{chordsOf}
 use Rattle.chords.specs.Inner.{nextFrom, sideAt}
 use Rattle.chords.specs.Laws.SidesWithin.{SideWithin, some-numbers, from-within}

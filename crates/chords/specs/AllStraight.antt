@@ -4,7 +4,7 @@
 --   straight-contour             of a contour
 --   straight-outline             of an outline
 --   zeros-numbers, zeros-take    how many numbers marks that are all 0 ask for; the first n of them
-use mathlib.Core.Path.{_≡_, refl, sym, _∙_, ap, ap₂}
+use mathlib.Core.Path.{_≡_, refl, _∙_, ap, ap₂}
 use mathlib.Core.List.{List, [], _∷_, _++_}
 use Prim.Native.Nat.{ℕ, zero, suc, _+_, _*_}
 use native.Mathlib.Omega.{arith}
@@ -15,7 +15,7 @@ use lib.IntN.{ℤ}
 use Rattle.integers.specs.ListSum.{tally, joined}
 use Rattle.edge.specs.declared.Edge.{Edge}
 use Rattle.accuracy.specs.Outline.{Point, pointsOf, pointAt, contoursOf, edgeCount, edgeBetween, through, contourEdges, outlineEdges}
-use Rattle.chords.specs.Sides.{numbers, sidesFrom, MarkedContour, markedContours}
+use Rattle.chords.specs.Sides.{numbers, sidesFrom, markedContours}
 use Rattle.chords.specs.Chords.{chordsOf, contourChords, outlineChords}
 
 -- through all points, to the last

@@ -6,7 +6,7 @@
 -- Main results
 --   side-near                    so they are of a side whose coordinates are on a sheet
 --   sides-near                   and so they are of every side of an outline whose coordinates, control points' too, are on a sheet
-use mathlib.Core.List.{List, [], _∷_}
+use mathlib.Core.List.{List}
 use Rattle.integers.specs.ListSum.{All, all-map, joined}
 use Rattle.curve.specs.ChordsNear.{ChordsNear, curve-near}
 use Rattle.curve.specs.Curve.{OnSheet}

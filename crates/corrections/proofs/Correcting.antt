@@ -5,7 +5,7 @@
 --   on-sheet, in-view            its coordinates are on a sheet; its edges are in the tile's view
 --   fits-contour, fits-again     there is room for them, and for taking them out again
 --   opposite-fits, back-within   the opposite of a sign is one
-use mathlib.Core.Path.{_≡_, _∙_, subst}
+use mathlib.Core.Path.{_∙_, subst}
 use mathlib.Core.List.{List}
 use Prim.Native.Nat.{ℕ, _+_, _*_, _≤_}
 use native.Mathlib.Omega.{arith}

@@ -9,7 +9,7 @@
 use mathlib.Core.Path.{_≡_, refl, sym, _∙_, ap, subst₂}
 use mathlib.Core.List.{List, Perm·refl}
 use Prim.Native.Nat.{ℕ, _*_}
-use lib.ListN.{length, replicate, length-replicate}
+use lib.ListN.{replicate, length-replicate}
 use lib.IntN.{ℤ, pos}
 use Rattle.edge.specs.declared.Edge.{Edge}
 use Rattle.placement.specs.declared.Placement.the-variants.{None}

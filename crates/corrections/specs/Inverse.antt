@@ -33,16 +33,16 @@ use Rattle.corrections.specs.Laws.AskedContour.{opposite, sign-opposite,
 
 -- ---- what a change does, the opposite one undoes
 module _ (count edges : ℕ) where
-  few-again : (c : Change) → edges ≤ mostEdges → alreadyIn c edges + count ≤ mostEdges → takenOut c count ≤ edges
+  pub few-again : (c : Change) → edges ≤ mostEdges → alreadyIn c edges + count ≤ mostEdges → takenOut c count ≤ edges
       → alreadyIn (opposite c) (edgesAfter c count edges) + count ≤ mostEdges
   few-again Put room few out = omega (arith, few)
   few-again Take room few out = omega (arith, room, out)
 
-  counted-again : (c : Change) → takenOut (opposite c) count ≤ edgesAfter c count edges
+  pub counted-again : (c : Change) → takenOut (opposite c) count ≤ edgesAfter c count edges
   counted-again Put = omega arith
   counted-again Take = omega arith
 
-  edges-again : (c : Change) → takenOut c count ≤ edges → edgesAfter (opposite c) count (edgesAfter c count edges) ≡ edges
+  pub edges-again : (c : Change) → takenOut c count ≤ edges → edgesAfter (opposite c) count (edgesAfter c count edges) ≡ edges
   edges-again Put out = omega arith
   edges-again Take out = omega (arith, out)
 

@@ -2,7 +2,7 @@
 -- and P5). Read in this order.
 --
 -- What is cited of the crates below: `Sites` of `sheet`, which has what goes by the site; `Questions`, `Outcomes`, `Faithful` and `Written` of `tile`; Added of
--- `rasterize`.
+-- `rasterize`; Sides and Chords of `chords`.
 
 -- ---- what the calls answer and leave, and when each number is answered
 pub mod Corrections

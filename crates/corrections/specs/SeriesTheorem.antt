@@ -16,9 +16,9 @@ use Rattle.placement.specs.declared.Placement.{Placement}
 use Rattle.placement.specs.declared.Placement.the-variants.{None}
 use Rattle.placement.specs.Placed.{placed}
 use Rattle.placement.specs.Laws.PlacedPoints.{placed-none, placed-length}
-use Rattle.accuracy.specs.Outline.{contoursOf, edgeCount, outlineEdges}
-use Rattle.tile.specs.Questions.{Yes, question1, question6, question12}
-use Rattle.tile.specs.Outcomes.{edgesOf, buildRefusal, buildResult, buildTable, placedRefusal, placedResult, placedTable}
+use Rattle.accuracy.specs.Outline.{contoursOf, edgeCount}
+use Rattle.tile.specs.Questions.{Yes, question6, question12}
+use Rattle.tile.specs.Outcomes.{buildRefusal, buildResult, buildTable, placedRefusal, placedResult, placedTable}
 use Rattle.tile.specs.Refusals.{placed-refusals, question3-means}
 use Rattle.tile.specs.PlacedOutline.{placed-number, placed-as-built}
 use Rattle.tile.specs.Written.{Contour, coordinates, countsOf}
@@ -28,10 +28,10 @@ use Rattle.tile.specs.Laws.Written.{coordinates-back}
 use Rattle.sheet.specs.declared.SheetTile.{SheetTile}
 use Rattle.sheet.specs.declared.Site.{Site}
 use Rattle.sheet.specs.declared.Site.the-variants.{Alone, OnSheet}
-use Rattle.sheet.specs.SheetOutcomes.{tileEntries, sheetRefusal, sheetResult, sheetTable}
+use Rattle.sheet.specs.SheetOutcomes.{sheetRefusal, sheetResult, sheetTable}
 use Rattle.sheet.specs.SheetRefusals.{sheet-refusals}
 use Rattle.sheet.specs.SheetTheorem.{sheet-accepted}
-use Rattle.sheet.specs.Sites.{tileSide, SiteYes, entriesAt, siteResult, siteTable}
+use Rattle.sheet.specs.Sites.{tileSide, SiteYes, siteResult, siteTable}
 use Rattle.corrections.specs.Corrections.{Tile, Call, tileOf, contourOf, part, correctRefusal, corrected}
 use Rattle.corrections.specs.Holding.{emptyTile, HoldsContours}
 use Rattle.corrections.specs.Series.{run, corrections, IsAlone, OneSite, Series}

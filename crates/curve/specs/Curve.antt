@@ -9,12 +9,13 @@
 --   chordNum p q r n i b a       n² b times where chord i of n is, a / b of its way along, before its ends are rounded
 --   bendLimit k                  4 × 4^k
 --   IsFlat k z, flat k z         z is at most that in magnitude
+--   splitsFrom m k u v           the search for it, from k on
 --   splits u v                   k: the least from 0 to 7 for which both bends are flat, and 7 where none is, which on a sheet does not happen
 --   chordEnd p q r k i           end i of the 2^k chords, rounded to the nearest step, halves towards the larger
 use mathlib.Core.Path.{_≡_, refl}
 use mathlib.Core.Bool.{Bool, _&&_, cond}
 use Prim.Native.Nat.{ℕ, zero, suc, _*_, _^_}
-use lib.IntN.{ℤ, pos, negsuc, negℤ, _+ℤ_, _-ℤ_, _*ℤ_}
+use lib.IntN.{ℤ, pos, negℤ, _+ℤ_, _-ℤ_, _*ℤ_}
 use lib.Signed.{_≤ℤ_}
 use Rattle.integers.specs.Units.{greatestSheetCoordinate, mostSplits}
 use Rattle.integers.specs.Within.{Within}

@@ -11,7 +11,6 @@
 --   question16-means, question3Marked-means,
 --   question5Chords-means                    what "yes" says
 use mathlib.Core.Path.{_≡_}
-use mathlib.Core.Bool.{_&&_}
 use mathlib.Core.List.{List, [], _∷_, map}
 use mathlib.Core.Logic.{_↔_}
 use Prim.Native.Nat.{ℕ, _+_, _<_, _≤_}

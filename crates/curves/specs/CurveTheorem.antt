@@ -2,10 +2,11 @@
 --
 -- Main results
 --   AcceptedMarked, marked-accepted   what the answers say of an outline that is accepted
---   curves-accepted                   of building
+--   curves-zero                       the number is 0 exactly where all questions are answered yes
+--   curves-accepted                   what an accepted building says
 --   edges-faithful                    edges that are accepted at a site are drawn as `FaithfulAt` says
 --   curves-faithful                   what building leaves is drawn as `FaithfulCurves` says
---   ring-accepted                     an instance: four curves around the middle of a tile
+--   roundel, roundel-accepted         an instance: four curves around the middle of a tile
 use mathlib.Core.Path.{_≡_, refl, sym, _∙_, subst}
 use mathlib.Core.List.{List, [], _∷_}
 use mathlib.Core.Logic.{_↔_}
@@ -148,10 +149,10 @@ module _ (site : Site) (points : List ℤ) (counts marks : List ℕ) (placement 
   }
 
 -- ---- an instance: four curves, each with its control point in a corner of a tile of one pixel; each becomes eight chords
-abbrev ring : List ℤ
-ring =
+abbrev pub roundel : List ℤ
+roundel =
     pos 128 ∷ pos 0 ∷ pos 256 ∷ pos 0 ∷ pos 256 ∷ pos 128 ∷ pos 256 ∷ pos 256 ∷ pos 128 ∷ pos 256 ∷ pos 0 ∷ pos 256 ∷ pos 0 ∷ pos 128 ∷ pos 0 ∷ pos 0 ∷ []
 
-pub ring-accepted : curvesResult (Alone 1) ring (4 ∷ []) (1 ∷ 1 ∷ 1 ∷ 1 ∷ []) None (pos 0 ∷ []) ≡ record { number = 0; edges = 32 }
+pub roundel-accepted : curvesResult (Alone 1) roundel (4 ∷ []) (1 ∷ 1 ∷ 1 ∷ 1 ∷ []) None (pos 0 ∷ []) ≡ record { number = 0; edges = 32 }
 unfolding placed tally joined sidesFrom markedContours chordsOf splitsFrom tabulate
-ring-accepted = refl
+roundel-accepted = refl

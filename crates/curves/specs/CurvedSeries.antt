@@ -5,7 +5,9 @@
 --
 -- Definitions
 --   AnyCall                      a call of either kind
---   siteOf, straightIn           its site; the contour of a call without marks
+--   siteOf, changeOf, contourAny,
+--   numberOf, afterOf            its site, what it does with its contour, what it answers and leaves
+--   straightIn                   the contour of a call without marks
 --   anyCalls                     the six calls, as their contracts have them
 --   AtSite site k                a call that belongs to a series on a tile at that site
 --   CurveSeries site             a series of them

@@ -3,13 +3,15 @@
 -- Main results
 --   holds-no-curves              where a series may begin: the empty tile, alone or on a sheet,
 --   holds-curves-built           what building with marks leaves,
---   holds-as-curves              and a tile that holds contours of points
+--   holds-as-curves,
+--   holds-as-points              and a tile that holds contours of points; and back, where none of those that are in is curved
+--   no-curves-call               a call on a contour of points that is not refused is not refused with every mark 0 either, and leaves the same
 --   curve-series,
 --   curve-series-from            after a series from the empty tile, or from one that holds contours, the tile holds what remains
 --   curve-not-refused,
 --   plain-not-refused            no call on such a tile is refused but for its own questions, and for taking out more edges than there are
 --   counted-in                   and a contour that is in has no more
---   mixed                        an example: a ring of curves and a square are put in, and the ring is taken out again
+--   mixed                        an example: four curves and a square are put in, and the curves are taken out again
 use mathlib.Core.Path.{_≡_, refl, sym, _∙_, ap, ap₂, subst, subst⁻¹}
 use mathlib.Core.Bool.{true, _&&_}
 use mathlib.Core.List.{List, [], _∷_, _++_, map, Perm, Perm·swap}
@@ -21,8 +23,8 @@ use lib.ListN.{length, getD, take, drop, replicate, length-replicate, length-dro
 use lib.Seq.{length-take-le}
 use lib.IntN.{ℤ, pos, _+ℤ_, _*ℤ_}
 use Rattle.integers.specs.Units.{mostEdges}
-use Rattle.integers.specs.ListSum.{All, all-back, total, tally, tally-perm, length-joined, joined}
-use Rattle.integers.specs.Tests.{every, and-true-means}
+use Rattle.integers.specs.ListSum.{All, all-append, all-back, total, tally, tally-perm, length-joined, joined}
+use Rattle.integers.specs.Tests.{every, eqb-means, and-true-means}
 use Rattle.edge.specs.declared.Edge.{Edge}
 use Rattle.placement.specs.declared.Placement.{Placement}
 use Rattle.placement.specs.declared.Placement.the-variants.{None}
@@ -47,29 +49,30 @@ use Rattle.tile.specs.Laws.Written.{back-points, coordinatesOf-length}
 use Rattle.sheet.specs.declared.Site.{Site}
 use Rattle.sheet.specs.declared.Site.the-variants.{Alone, OnSheet}
 use Rattle.sheet.specs.Sites.{tileSide, reach, SiteYes, siteQuestions, entriesAt}
-use Rattle.sheet.specs.Laws.SiteEdges.{site-in-view}
+use Rattle.sheet.specs.Laws.SiteEdges.{site-answers, site-in-view}
 use Rattle.corrections.specs.declared.Change.{Change}
 use Rattle.corrections.specs.declared.Change.the-variants.{Put, Take}
-use Rattle.corrections.specs.Corrections.{Tile, Call, tileOf, contourOf, part, signOf, alreadyIn, takenOut, edgesAfter, correctRefusal, corrected, putting}
+use Rattle.corrections.specs.Corrections.{Tile, Call, tileOf, contourOf, part, signOf, question13, question9Twice, alreadyIn, takenOut, edgesAfter, correctRefusal, corrected, putting}
 use Rattle.corrections.specs.Amending.{leftBy}
 use Rattle.corrections.specs.Holding.{emptyTile, HoldsContours}
 use Rattle.corrections.specs.Series.{IsAlone, run, none, put, taken}
 use Rattle.corrections.specs.Laws.Answered.{AskedYes, call-accepted}
 use Rattle.corrections.specs.Laws.Accepted.{isContour}
 use Rattle.corrections.specs.Laws.AddingUp.{adds-up-none}
-use Rattle.corrections.specs.Laws.Held.{sums-of-holds}
+use Rattle.corrections.specs.Laws.Held.{holds-of-sums, sums-of-holds}
 use Rattle.corrections.specs.Laws.AskedContour.{sign-within, contour-count, few-edges, part-within}
 use Rattle.corrections.specs.Laws.Kept.{corrected-is}
 use Rattle.corrections.specs.Laws.Parts.{cellsAt, partOf, parts-table, values-within, added-in-range}
 use Rattle.corrections.specs.Laws.Runs.{Keeps, run-keeps}
-use Rattle.curves.specs.MarkedQuestions.{isMark, markedQuestions}
+use Rattle.curves.specs.MarkedQuestions.{isMark, edgesMarked, markedQuestions}
 use Rattle.curves.specs.CurveOutcomes.{curvesRefusal, curvesResult, curvesTable}
-use Rattle.curves.specs.CurveRefusals.{question3Marked-means}
-use Rattle.curves.specs.CurveTheorem.{marked-accepted, curves-accepted, curves-zero}
-use Rattle.curves.specs.CurvedCorrections.{CurveCall, contourIn, edgesIn, curveCallQuestions, puttingCurve, takingCurve, correctCurveRefusal, correctedCurve}
+use Rattle.curves.specs.CurveRefusals.{question3Marked-means, question5Chords-means}
+use Rattle.curves.specs.CurveTheorem.{roundel, marked-accepted, curves-accepted, curves-zero}
+use Rattle.curves.specs.NoCurves.{marks-yes}
+use Rattle.curves.specs.CurvedCorrections.{CurveCall, curveCallOf, contourIn, edgesIn, curveCallQuestions, puttingCurve, takingCurve, correctCurveRefusal, correctedCurve}
 use Rattle.curves.specs.CurvedHolding.{isShaped, straight, writtenPoints, writtenCounts, writtenMarks, HoldsCurves}
 use Rattle.curves.specs.CurvedSeries.{AnyCall, plain, marked, straightIn, siteOf, anyCalls, AtSite, CurveSeries}
-use Rattle.curves.specs.Laws.Written.{isCurve, curves-asked}
+use Rattle.curves.specs.Laws.Written.{isMarkedContour, curves-asked}
 use Rattle.curves.specs.Laws.CurvedSums.{curves-reordered, holds-of-curve-sums, curve-sums-of-holds, curve-sums-length, curve-sums-within, curve-sums-in-range, curve-sums-put, curve-sums-taken}
 use Rattle.curves.specs.Laws.CurvedKept.{one-contour, accepted-curve, corrected-curve-is, holds-put-curve, holds-taken-curve, curve-same-side}
 
@@ -136,10 +139,6 @@ module _ (site : Site) (points : List ℤ) (counts marks : List ℕ) (placement 
       })
 
 -- ---- a contour of points
-marks-yes : (n : ℕ) → every isMark (replicate n 0) ≡ true
-marks-yes zero = refl
-marks-yes (suc n) = marks-yes n
-
 module _ (k : Call) (t : Tile) (done : correctRefusal k t ≡ 0) where
   asked : AskedYes k t
   asked = call-accepted k t .0 done .about
@@ -161,7 +160,7 @@ module _ (k : Call) (t : Tile) (done : correctRefusal k t ≡ 0) where
   plain-shaped : isShaped (straightIn k) ≡ true
   plain-shaped = question3Marked-means zs (replicate (k .count) 0) .1 (even ∙ sym (zeros-numbers (k .count)))
 
-  plain-right : isCurve (reach (k .site)) (straightIn k) ≡ true
+  plain-right : isMarkedContour (reach (k .site)) (straightIn k) ≡ true
   plain-right =
       ap₂ _&&_ (ap (λ n. question4 (n ∷ []) .answer) (length-replicate {A = ℕ} (k .count) 0) ∙ asked .yes4) (ap₂ _&&_ (marks-yes (k .count)) (asked .yes6))
 
@@ -184,6 +183,38 @@ module _ (k : Call) (t : Tile) (done : correctRefusal k t ≡ 0) where
   plain-same-side {site} h =
       square-injective (tileSide (k .site)) (tileSide site)
       (sym (question2-means (tileSide (k .site)) (t .table) .0 (asked .yes2)) ∙ curve-sums-length (curve-sums-of-holds h))
+
+  -- so is the call with marks that are all 0
+  pub no-curves-call : (correctCurveRefusal (curveCallOf (k .change) (k .site) (k .points) (k .count) (replicate (k .count) 0) (k .placement)) t ≡ 0)
+      × (correctedCurve (curveCallOf (k .change) (k .site) (k .points) (k .count) (replicate (k .count) 0) (k .placement)) t ≡ corrected k t)
+  unfolding tally
+  no-curves-call =
+      let zeros : List ℕ = replicate (k .count) 0 in
+      let m = curveCallOf (k .change) (k .site) (k .points) (k .count) zeros (k .placement) in
+      let whole = call-accepted k t .0 done in
+      let long : length (k .points) ≡ 2 * k .count = question3-means (k .points) (k .count ∷ []) .0 (asked .yes3) ∙ omega arith in
+      let numbered = zeros-numbers (k .count) in
+      let same = one-contour (k .points) (k .count) zeros (k .placement) (length-replicate {A = ℕ} (k .count) 0) (long ∙ sym numbered) in
+      let size = size-is ∙ contour-count k (asked .yes3) in
+      let counted = ap length same ∙ size in
+      let accepted : correctCurveRefusal m t ≡ 0 = accepted-curve m t
+      (all-append Yes (siteQuestions (k .site) (t .table)) (markedQuestions (reach (k .site)) (k .points) (k .count ∷ []) zeros (k .placement) (alreadyIn (k .change) (t .edges)))
+      (site-answers (k .site) (t .table) .1 (asked .site, asked .yes2)) (
+        asked .yes4,
+        (
+          ap₂ _&&_ (marks-yes (k .count)) (eqb-means (length zeros) (edgeCount (k .count ∷ [])) .1 (length-replicate {A = ℕ} (k .count) 0 ∙ omega arith)),
+          (
+            question3Marked-means (k .points) zeros .1 (long ∙ sym numbered),
+            (
+              asked .yes12,
+              (asked .yes6, (question5Chords-means (alreadyIn (k .change) (t .edges)) (edgesMarked (k .points) (k .count ∷ []) zeros (k .placement)) .1 (omega (arith, counted, few-edges k t asked)), tt)),
+            ),
+          ),
+        ),
+      ))
+      (ap (λ i. question13 (takenOut (k .change) i) (t .edges) .answer) size ∙ whole .yes13)
+      (ap (λ (es : List Edge). question9Twice (t .table) (leftBy (k .site) (k .change) es (t .table)) .answer) same-edges ∙ whole .yes9) in
+      (accepted, if-done _ t accepted ∙ sym (plain-is (k .change) refl))
 
 -- ---- the series: a call that belongs to it and is not refused has the tile's site
 any-side : (k : AnyCall) (t : Tile) {site : Site} {cs : List MarkedContour} → anyCalls .number k t ≡ 0 → HoldsCurves site cs t → tileSide (siteOf k) ≡ tileSide site
@@ -237,11 +268,11 @@ curve-series site y l = curve-series-from (holds-no-curves site y) l
 straight-edges : (c : Contour) → contourChords (straight c) ≡ contourEdges c
 straight-edges c = straight-contour (length c) (coordinatesOf c) (coordinatesOf-length c) ∙ ap contourEdges (back-points c)
 
-straight-right : (side : ℕ) (c : Contour) → isCurve side (straight c) ≡ isContour side c
+straight-right : (side : ℕ) (c : Contour) → isMarkedContour side (straight c) ≡ isContour side c
 straight-right side c =
     ap₂ _&&_ (ap (λ n. question4 (n ∷ []) .answer) (length-replicate {A = ℕ} (length c) 0)) (ap (λ b. b && question6 side (coordinatesOf c) .answer) (marks-yes (length c)))
 
-all-straight : (side : ℕ) (cs : List Contour) → every (isCurve side) (map straight cs) ≡ every (isContour side) cs
+all-straight : (side : ℕ) (cs : List Contour) → every (isMarkedContour side) (map straight cs) ≡ every (isContour side) cs
 all-straight side [] = refl
 all-straight side (c ∷ cs) = ap₂ _&&_ (straight-right side c) (all-straight side cs)
 
@@ -274,6 +305,22 @@ holds-as-curves {site} {cs} h =
       };
       few = subst (λ n. n ≤ mostEdges) (same-count cs) (s .few);
       right = all-straight (reach site) cs ∙ s .right;
+    })
+
+-- and the other way round: what remains may then be built without marks
+pub holds-as-points : {site : Site} {cs : List Contour} {t : Tile} → HoldsCurves site (map straight cs) t → HoldsContours site cs t
+holds-as-points {site} {cs} h =
+    let s = curve-sums-of-holds h in
+    holds-of-sums
+    (record {
+      is-site = s .is-site;
+      adds-up = record {
+        table-is = s .adds-up .table-is
+            ∙ added-same (replicate (cellsAt site) (pos 0)) (λ i. total (λ c. partOf contourChords site c i) (map straight cs)) (λ i. total (λ c. part site c i) cs) (λ i q. sym (same-parts site cs i));
+        edges-is = s .adds-up .edges-is ∙ sym (same-count cs);
+      };
+      few = subst⁻¹ (λ n. n ≤ mostEdges) (same-count cs) (s .few);
+      right = sym (all-straight (reach site) cs) ∙ s .right;
     })
 
 -- ---- no empty premise: calls that are not refused
@@ -311,34 +358,30 @@ module _ {site : Site} {cs : List MarkedContour} {t : Tile} (h : HoldsCurves sit
   pub two-yes : Yes (question2 (tileSide site) (t .table))
   two-yes = question2-means (tileSide site) (t .table) .1 (curve-sums-length (curve-sums-of-holds h))
 
--- ---- an example, on a tile of one pixel: a ring of four curves, and a square of points, which remains
-abbrev ring : List ℤ
-ring =
-    pos 128 ∷ pos 0 ∷ pos 256 ∷ pos 0 ∷ pos 256 ∷ pos 128 ∷ pos 256 ∷ pos 256 ∷ pos 128 ∷ pos 256 ∷ pos 0 ∷ pos 256 ∷ pos 0 ∷ pos 128 ∷ pos 0 ∷ pos 0 ∷ []
-
-abbrev ringIn : CurveCall
-ringIn = puttingCurve (Alone 1) ring 4 (1 ∷ 1 ∷ 1 ∷ 1 ∷ []) None
+-- ---- an example, on a tile of one pixel: the four curves of `roundel`, and a square of points, which remains
+abbrev roundIn : CurveCall
+roundIn = puttingCurve (Alone 1) roundel 4 (1 ∷ 1 ∷ 1 ∷ 1 ∷ []) None
 
 abbrev squareIn : Call
 squareIn = putting 1 (pos 0 ∷ pos 0 ∷ pos 256 ∷ pos 0 ∷ pos 256 ∷ pos 256 ∷ pos 0 ∷ pos 256 ∷ []) 4 None
 
-abbrev ringOut : CurveCall
-ringOut = takingCurve (Alone 1) ring 4 (1 ∷ 1 ∷ 1 ∷ 1 ∷ []) None
+abbrev roundOut : CurveCall
+roundOut = takingCurve (Alone 1) roundel 4 (1 ∷ 1 ∷ 1 ∷ 1 ∷ []) None
 
-pub mixed : CurveSeries (Alone 1) (emptyTile 1) [] (marked ringIn ∷ plain squareIn ∷ marked ringOut ∷ []) (straightIn squareIn ∷ [])
+pub mixed : CurveSeries (Alone 1) (emptyTile 1) [] (marked roundIn ∷ plain squareIn ∷ marked roundOut ∷ []) (straightIn squareIn ∷ [])
 unfolding placed tally joined sidesFrom markedContours chordsOf splitsFrom tabulate
 mixed =
     let empty : HoldsCurves (Alone 1) [] (emptyTile 1) = holds-no-curves (Alone 1) refl in
-    let first : correctCurveRefusal ringIn (emptyTile 1) ≡ 0 =
-    curve-not-refused empty ringIn (refl, (refl, (refl, (refl, (refl, (refl, (refl, (refl, tt)))))))) (omega arith) in
-    let one = correctedCurve ringIn (emptyTile 1) in
-    let holds-one = holds-put-curve ringIn (emptyTile 1) first refl empty in
+    let first : correctCurveRefusal roundIn (emptyTile 1) ≡ 0 =
+    curve-not-refused empty roundIn (refl, (refl, (refl, (refl, (refl, (refl, (refl, (refl, tt)))))))) (omega arith) in
+    let one = correctedCurve roundIn (emptyTile 1) in
+    let holds-one = holds-put-curve roundIn (emptyTile 1) first refl empty in
     let few : question5Beside (one .edges) (4 ∷ []) .answer ≡ true =
-    ap (λ t. question5Beside (t .edges) (4 ∷ []) .answer) (corrected-curve-is ringIn (emptyTile 1) first Put refl) in
+    ap (λ t. question5Beside (t .edges) (4 ∷ []) .answer) (corrected-curve-is roundIn (emptyTile 1) first Put refl) in
     let second = plain-not-refused holds-one squareIn
     (record { site = refl; yes2 = two-yes holds-one; yes4 = refl; yes5 = few; yes3 = refl; yes12 = refl; yes6 = refl }) (omega arith) in
     let two = corrected squareIn one in
     let holds-two = holds-put-plain squareIn one second refl holds-one in
-    let p : Perm (straightIn squareIn ∷ contourIn ringIn ∷ []) (contourIn ringOut ∷ straightIn squareIn ∷ []) = Perm·swap (contourIn ringIn) (straightIn squareIn) [] in
-    let third = curve-not-refused holds-two ringOut (refl, (two-yes holds-two, (refl, (refl, (refl, (refl, (refl, (refl, tt)))))))) (counted-in holds-two p) in
+    let p : Perm (straightIn squareIn ∷ contourIn roundIn ∷ []) (contourIn roundOut ∷ straightIn squareIn ∷ []) = Perm·swap (contourIn roundIn) (straightIn squareIn) [] in
+    let third = curve-not-refused holds-two roundOut (refl, (two-yes holds-two, (refl, (refl, (refl, (refl, (refl, (refl, tt)))))))) (counted-in holds-two p) in
     (put first refl (put second refl (taken third refl p none)), (tt, (tt, (tt, tt))))

@@ -6,6 +6,7 @@
 --
 -- Definitions
 --   exactAreaAt                  01's exact area of a cell of the tile, at its place: the numerator
+--   FaithfulAt                   what is promised of edges at a site, and of the table that they left
 --   FaithfulCurves               what is promised of the table that building left
 use mathlib.Core.Path.{_≡_}
 use mathlib.Core.List.{List}

@@ -1,47 +1,43 @@
--- "Calls without marks stay as they were." With every mark 0, the calls with marks are those without: the edges are the same, an outline is accepted by the one
--- where it is by the other, and then answer and table are the same. Of putting in and taking out, that they may be mixed is in `CurvedSeries`. (Where it is refused, the number may be another: 5 comes before 3 there, and after 6 here.)
+-- With every mark 0, building with marks is building without: the edges are the same, an outline is accepted by the one where it is by the other, and then answer
+-- and table are the same. (Where it is refused the number may be another: 5 comes before 3 there, and after 6 here.) Of putting in and taking out it is said by
+-- `no-curves-call` of `CurvedSeriesTheorem`.
 --
+-- Definitions
+--   zeros counts                 a mark 0 for each edge
 -- Main results
+--   marks-yes                    zeros are marks
 --   no-curves-edges              the edges of an outline
 --   no-curves-alone,
 --   no-curves-on-sheet           building accepts it, with marks or without
 --   no-curves-alone-same,
 --   no-curves-on-sheet-same      and then it answers and leaves the same
-use mathlib.Core.Path.{_≡_, refl, sym, _∙_, ap, ap₂, subst, subst⁻¹}
+use mathlib.Core.Path.{_≡_, refl, sym, _∙_, ap, ap₂}
 use mathlib.Core.Bool.{true, _&&_}
-use mathlib.Core.List.{List, [], _∷_, _++_}
+use mathlib.Core.List.{List}
 use mathlib.Core.Logic.{_↔_}
-use Prim.Native.Nat.{ℕ, zero, suc, _+_, _*_, _≤_}
+use Prim.Native.Nat.{ℕ, zero, suc, _*_}
 use native.Mathlib.Omega.{arith}
-use lib.Dec.{eqb, leb}
-use lib.ListN.{length, getD, replicate, length-replicate}
-use lib.IntN.{ℤ, pos, _*ℤ_}
-use Rattle.integers.specs.Units.{mostEdges}
-use Rattle.integers.specs.ListSum.{All, all-append, all-front, all-back, tally}
-use Rattle.integers.specs.Tests.{every, eqb-means, leb-means, and-true-means}
-use Rattle.edge.specs.declared.Edge.{Edge}
+use lib.ListN.{length, replicate, length-replicate}
+use lib.IntN.{ℤ}
+use Rattle.integers.specs.Tests.{every, eqb-means}
 use Rattle.placement.specs.declared.Placement.{Placement}
 use Rattle.placement.specs.Placed.{placed}
 use Rattle.placement.specs.Laws.PlacedPoints.{placed-length}
-use Rattle.accuracy.specs.Outline.{pointsOf, contoursOf, edgeCount, contourEdges, outlineEdges}
+use Rattle.accuracy.specs.Outline.{edgeCount}
 use Rattle.accuracy.specs.Laws.Coordinates.{contoursOf-count}
-use Rattle.rasterize.specs.Added.{added}
-use Rattle.chords.specs.Sides.{numbers, markedContour}
-use Rattle.chords.specs.Chords.{contourChords}
-use Rattle.chords.specs.AllStraight.{straight-contour, straight-outline, zeros-numbers}
-use Rattle.tile.specs.Questions.{Question, Yes, question1, question2, question3, question4, question5, question5Beside, question6, question12}
-use Rattle.tile.specs.Outcomes.{ifDone, edgesOf, tableOf, placedRefusal, placedResult, placedTable}
+use Rattle.chords.specs.AllStraight.{straight-outline, zeros-numbers}
+use Rattle.tile.specs.Questions.{Yes, question3, question5}
+use Rattle.tile.specs.Outcomes.{edgesOf, placedRefusal, placedResult, placedTable}
 use Rattle.tile.specs.Refusals.{placed-refusals, question3-means, question5-means}
 use Rattle.tile.specs.Laws.IfDone.{if-done}
 use Rattle.sheet.specs.declared.SheetTile.{SheetTile}
-use Rattle.sheet.specs.declared.Site.{Site}
 use Rattle.sheet.specs.declared.Site.the-variants.{Alone, OnSheet}
 use Rattle.sheet.specs.SheetOutcomes.{tileEntries, sheetRefusal, sheetResult, sheetTable}
 use Rattle.sheet.specs.SheetRefusals.{sheet-refusals}
-use Rattle.sheet.specs.Sites.{reach, entriesAt}
+use Rattle.sheet.specs.Sites.{entriesAt}
 use Rattle.curves.specs.MarkedQuestions.{isMark, question16, question3Marked, question5Chords, edgesMarked}
 use Rattle.curves.specs.CurveOutcomes.{curvesRefusal, curvesResult, curvesTable}
-use Rattle.curves.specs.CurveRefusals.{question16-means, question3Marked-means, question5Chords-means}
+use Rattle.curves.specs.CurveRefusals.{question3Marked-means, question5Chords-means}
 use Rattle.curves.specs.CurveTheorem.{curves-zero}
 
 abbrev pub zeros : List ℕ → List ℕ
@@ -52,7 +48,7 @@ pub no-curves-edges : (points : List ℤ) (counts : List ℕ) (placement : Place
 no-curves-edges points counts placement long = straight-outline counts (placed placement points) (placed-length placement points ∙ long)
 
 -- ---- the questions that differ
-marks-yes : (n : ℕ) → every isMark (replicate n 0) ≡ true
+pub marks-yes : (n : ℕ) → every isMark (replicate n 0) ≡ true
 marks-yes zero = refl
 marks-yes (suc n) = marks-yes n
 

@@ -273,7 +273,7 @@ pub fn put_curves(
 }
 
 // Takes a contour with curved edges out of a tile again: as `put_curves`, with its values taken from the table and the number of its edges from the record. A
-// contour of points that `put` put in can be taken out with every mark 0, and one without curves that was put in here by `take`.
+// contour of points that `put` or `put_on_sheet` put in can be taken out with every mark 0, and one without curves that was put in here by `take` or `take_on_sheet`.
 pub fn take_curves(
     site: Site,
     points: &[i64],

@@ -1,4 +1,4 @@
--- A site is where a tile lies: alone, as 01 has it, or on a sheet (02, P5). What the calls of `corrections` ask, add and leave goes by the site, so that what
+-- A site is where a tile lies: alone, as 01 has it, or on a sheet (02, P5). What the calls of `corrections` and `curves` ask, add and leave goes by the site, so that what
 -- is said of one kind is said of both, and a tile alone is an instance by computing: its definitions are those of `tile`.
 --
 -- Definitions

@@ -1,13 +1,12 @@
 -- An edge, or a curve's chords.
 use mathlib.Core.Path.{_≡_, sym, _∙_, ap, subst}
-use mathlib.Core.List.{List, [], _∷_}
+use mathlib.Core.List.{List}
 use lib.ListN.{length}
 use lib.IntN.{ℤ}
 use borrow.Author.Needs.{needs}
 use Rattle.integers.specs.ListSum.{All}
 use Rattle.integers.specs.Held.{held-number, held-within}
 use Rattle.integers.specs.Bits.{back, back-is}
-use Rattle.edge.specs.declared.Edge.{Edge}
 use Rattle.curve.specs.Curve.{OnSheet}
 use Rattle.rasterize.specs.Added.{added}
 use Rattle.rasterize.specs.Ready.{Fits}

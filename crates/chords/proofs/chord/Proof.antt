@@ -4,7 +4,6 @@ use Prim.Native.Nat.{_<_}
 use native.Mathlib.Omega.{arith}
 use lib.Pow.{pow-mono}
 use lib.IntN.{ℤ}
-use borrow.Author.Needs.{needs}
 use Rattle.integers.specs.Units.{mostSplits, mostChords}
 use Rattle.integers.specs.Bits.{field-is}
 use Rattle.edge.specs.declared.Edge.{Edge}

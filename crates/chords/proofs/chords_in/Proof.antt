@@ -1,14 +1,12 @@
 -- One edge, or 2^k chords.
-use mathlib.Core.Path.{_≡_, sym, _∙_, ap, subst}
+use mathlib.Core.Path.{sym, _∙_, ap, subst}
 use Prim.Native.Nat.{_^_}
 use native.Mathlib.Omega.{arith}
 use lib.ListN.{length}
 use borrow.Author.Needs.{needs}
 use Rattle.curve.specs.Curve.{OnSheet, bend}
 use Rattle.curve.specs.Laws.Splits.{splits-most}
-use Rattle.chords.specs.declared.Curve.{Curve}
-use Rattle.chords.specs.declared.Side.{Side}
-use Rattle.chords.specs.Chords.{splitsOf, chordsOf}
+use Rattle.chords.specs.Chords.{chordsOf}
 use Rattle.chords.specs.Laws.ChordList.{straight-chords, curved-length}
 use Rattle.chords.specs.Laws.SidesWithin.{SideWithin}
 use Rattle.chords.proofs.chords_in.Statement.{statement}

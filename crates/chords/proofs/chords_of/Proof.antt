@@ -1,5 +1,5 @@
 -- Side by side.
-use mathlib.Core.Path.{_≡_, sym, _∙_, ap, subst⁻¹}
+use mathlib.Core.Path.{_≡_, _∙_, ap, subst⁻¹}
 use mathlib.Core.List.{List}
 use Prim.Native.Nat.{ℕ, _+_, _*_, _-_, _<_, _≤_}
 use native.Mathlib.Omega.{arith}
@@ -13,7 +13,7 @@ use Rattle.curve.specs.Curve.{OnSheet}
 use Rattle.placement.specs.Placed.{placed}
 use Rattle.placement.specs.Laws.PlacedPoints.{placed-length}
 use Rattle.chords.specs.declared.Side.{Side}
-use Rattle.chords.specs.Sides.{numbersOf, markedContour}
+use Rattle.chords.specs.Sides.{markedContour}
 use Rattle.chords.specs.Chords.{chordsOf, contourChords}
 use Rattle.chords.specs.Inner.{sideAt}
 use Rattle.chords.specs.Laws.SidesWithin.{SideWithin}

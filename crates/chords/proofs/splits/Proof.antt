@@ -2,7 +2,7 @@
 use mathlib.Core.Path.{_≡_, _∙_, ap, ap₂}
 use lib.IntN.{ℤ}
 use borrow.Author.Needs.{needs}
-use Rattle.integers.specs.Bits.{back, result-is}
+use Rattle.integers.specs.Bits.{result-is}
 use Rattle.curve.specs.Curve.{bend, splits}
 use Rattle.chords.proofs.Coordinates.{on-back, on-again}
 use Rattle.chords.proofs.splits.Statement.{statement}

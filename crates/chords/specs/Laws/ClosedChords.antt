@@ -16,7 +16,6 @@ use lib.IntN.{ℤ, pos, _+ℤ_, _-ℤ_}
 use Rattle.integers.specs.Ring.{read, ring}
 use Rattle.integers.specs.RangeSum.{Σ<, Σ-zero, Σ-first, Σ-telescope}
 use Rattle.integers.specs.ListSum.{All, all-map, all-joined, total, total-append, joined}
-use Rattle.edge.specs.declared.Edge.{Edge}
 use Rattle.curve.specs.Laws.ChordEnds.{chordEnd-first, chordEnd-last, chordEnd-low, chordEnd-high}
 use Rattle.haar.specs.Pictures.{tabulate}
 use Rattle.accuracy.specs.Outline.{Point, pointAt, edgeBetween, gain, ClosedEdges}

@@ -8,7 +8,7 @@
 --   from-within                  the sides from some on
 --   contour-within, sides-within the sides of such a contour, and of an outline
 --   contours-right               the contours of an outline with as many marks and coordinates as it should have are such
-use mathlib.Core.Path.{_≡_, refl, sym, _∙_, ap}
+use mathlib.Core.Path.{_≡_, refl}
 use mathlib.Core.Bool.{Bool, true, false, cond}
 use mathlib.Core.List.{List, [], _∷_}
 use Prim.Native.Nat.{ℕ, zero, suc, _+_, _*_, _%_, _<_, _≤_}

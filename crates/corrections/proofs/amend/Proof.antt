@@ -31,7 +31,7 @@ use Rattle.sheet.specs.declared.Site.{Site}
 use Rattle.sheet.specs.Sites.{tileSide, viewAt, entriesAt}
 use Rattle.sheet.specs.Laws.SiteEdges.{site-entries}
 use Rattle.corrections.specs.Corrections.{Tile, tileOf, signOf, question13, question9Twice, takenOut}
-use Rattle.corrections.specs.Amending.{Amendable, leftBy, amendRefusal, amended}
+use Rattle.corrections.specs.Amending.{leftBy, amendRefusal, amended}
 use Rattle.corrections.specs.Laws.AskedContour.{sign-within}
 use Rattle.corrections.proofs.Correcting.{on-sheet, in-view, fits-contour, fits-again, opposite-fits, back-within}
 use Rattle.corrections.proofs.amend.Statement.{statement}

@@ -1,7 +1,7 @@
 -- The questions about the site and the contour; the rest is done by `amend`, to which a contour of points is one with every mark 0.
-use mathlib.Core.Path.{_≡_, refl, sym, _∙_, ap, ap₂, subst⁻¹}
+use mathlib.Core.Path.{_≡_, refl, sym, _∙_, ap, ap₂}
 use mathlib.Core.Logic.{_≢_}
-use mathlib.Core.List.{List, [], _∷_, _++_}
+use mathlib.Core.List.{List, [], _∷_}
 use Prim.Native.Nat.{ℕ, _+_, _*_, _-_, _≤_}
 use native.Mathlib.Omega.{arith}
 use lib.ListN.{length, take, replicate, length-replicate}
@@ -17,7 +17,7 @@ use Rattle.accuracy.specs.Outline.{contourEdges}
 use Rattle.chords.specs.Sides.{numbers, markedContour}
 use Rattle.chords.specs.Chords.{contourChords}
 use Rattle.chords.specs.AllStraight.{straight-contour, zeros-numbers, zeros-take}
-use Rattle.tile.specs.Questions.{Question, Yes, firstNo, outlineQuestions}
+use Rattle.tile.specs.Questions.{Question, firstNo, outlineQuestions}
 use Rattle.tile.specs.Outcomes.{ifDone}
 use Rattle.tile.specs.Refusals.{question3-means, question4-means}
 use Rattle.tile.specs.Laws.IfDone.{if-refused}

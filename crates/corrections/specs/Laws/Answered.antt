@@ -6,7 +6,7 @@
 --   AcceptedCall, call-accepted  and those about the tile: the call is not refused
 --   contour-zero                 the first "no" of those about the contour
 use mathlib.Core.Path.{_≡_}
-use mathlib.Core.List.{List, [], _∷_, _++_}
+use mathlib.Core.List.{List, [], _∷_}
 use mathlib.Core.Logic.{_↔_}
 use Prim.Native.Nat.{ℕ}
 use lib.IntN.{ℤ}

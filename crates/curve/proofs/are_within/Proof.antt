@@ -1,6 +1,5 @@
 -- One bend, and then the other.
 use mathlib.Core.Path.{_≡_, sym, _∙_, ap, ap₂}
-use mathlib.Core.Bool.{_&&_}
 use lib.IntN.{ℤ, pos, negℤ, _-ℤ_}
 use mir.Facts.{toZ-ofZ}
 use borrow.Author.Needs.{needs}

@@ -1,7 +1,7 @@
 -- A product, a difference and a sum of coordinates.
-use mathlib.Core.Path.{_≡_, refl}
+use mathlib.Core.Path.{refl}
 use Prim.Native.Nat.{ℕ, _+_, _*_}
-use lib.IntN.{ℤ, pos, _+ℤ_, _-ℤ_, _*ℤ_}
+use lib.IntN.{pos, _+ℤ_, _-ℤ_, _*ℤ_}
 use Rattle.integers.specs.Units.{greatestSheetCoordinate}
 use Rattle.integers.specs.Order.{nonneg}
 use Rattle.integers.specs.Within.{within-self}

@@ -1,5 +1,5 @@
 -- 2^k chords are at most 128, and n × n is 4^k.
-use mathlib.Core.Path.{_≡_, sym, _∙_, ap, ap₂, subst⁻¹}
+use mathlib.Core.Path.{_≡_, _∙_, ap, ap₂, subst⁻¹}
 use Prim.Native.Nat.{ℕ, _^_, _<_, _≤_}
 use native.Mathlib.Omega.{arith}
 use native.Mathlib.Nat.{one-le-pow}

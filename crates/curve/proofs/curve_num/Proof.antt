@@ -1,10 +1,10 @@
 -- The products and their sum: none passes 2^32.
-use mathlib.Core.Path.{_≡_, refl}
+use mathlib.Core.Path.{refl}
 use Prim.Native.Nat.{ℕ, _+_, _*_}
-use lib.IntN.{ℤ, pos, _+ℤ_, _-ℤ_, _*ℤ_}
+use lib.IntN.{ℤ, pos, _-ℤ_, _*ℤ_}
 use Rattle.integers.specs.Units.{greatestSheetCoordinate, mostChords}
 use Rattle.integers.specs.Order.{nonneg}
-use Rattle.integers.specs.Within.{Within, within-self}
+use Rattle.integers.specs.Within.{within-self}
 use Rattle.integers.specs.Bits.{back}
 use Rattle.integers.specs.Held.{Held, held-number, held-add, held-sub, held-mul, held-fits, held-back}
 use Rattle.curve.proofs.curve_num.Statement.{statement}

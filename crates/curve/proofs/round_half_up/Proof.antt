@@ -1,19 +1,19 @@
 -- The quotient of 2 n + d by 2 d, of numbers that are not negative.
-use mathlib.Core.Path.{_≡_, refl, sym, _∙_, ap₂, subst, subst₂, subst⁻¹}
+use mathlib.Core.Path.{_≡_, refl, _∙_, ap₂, subst, subst⁻¹}
 use mathlib.Core.List.{[], _∷_}
 use Prim.Native.Nat.{ℕ, _+_, _*_, _^_}
 use lib.Dec.{ltb→lt}
 use lib.IntN.{ℤ, pos, negsuc, natAbs, _+ℤ_, _*ℤ_}
-use lib.Signed.{quotZ, remZ, _≤ℤ_, _<ℤ_}
+use lib.Signed.{quotZ, _≤ℤ_, _<ℤ_}
 use mir.Syntax.{w64}
 use mir.Val.{SFits}
 use mir.Facts.{toZ-ofZ}
 use Rattle.integers.specs.Order.{nonneg, ≤ℤ-of-<ℤ}
 use Rattle.integers.specs.Linear.{le, lt, eq, _&_, linear, lin≤, lin<}
-use Rattle.integers.specs.Within.{Within, within-self, within-le}
+use Rattle.integers.specs.Within.{within-self, within-le}
 use Rattle.integers.specs.Rounding.{roundHalfUp}
 use Rattle.integers.specs.RoundHalfUp.{UpBounds, roundHalfUp-of-bounds}
-use Rattle.integers.specs.Machine.{bits-pos, known}
+use Rattle.integers.specs.Machine.{bits-pos}
 use Rattle.integers.specs.Division.{Truncated, truncated, quot-fits}
 use Rattle.integers.specs.Bits.{back}
 use Rattle.integers.specs.Held.{Held, held-number, held-add, held-mul, held-fits, held-back}

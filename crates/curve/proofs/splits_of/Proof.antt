@@ -1,18 +1,17 @@
 -- One number after the other, from 0 on; `limit` is 4 × 4^k.
-use mathlib.Core.Path.{_≡_, refl, sym, _∙_, ap, ap₂, subst, subst⁻¹}
-use mathlib.Core.Bool.{Bool, true, false, _&&_, cond}
-use mathlib.Core.List.{[], _∷_}
-use Prim.Native.Nat.{ℕ, zero, suc, _+_, _*_, _-_, _^_, _<_, _≤_}
+use mathlib.Core.Path.{_≡_, refl, sym, _∙_, ap, ap₂}
+use mathlib.Core.Bool.{true, false, _&&_, cond}
+use Prim.Native.Nat.{ℕ, suc, _+_, _*_, _-_, _^_, _<_, _≤_}
 use native.Mathlib.Omega.{arith}
-use native.Mathlib.Nat.{pow-succ', pow-le-pow-right, mul-le-mul-left}
-use lib.IntN.{ℤ, pos, negℤ, _*ℤ_}
+use native.Mathlib.Nat.{pow-succ', pow-le-pow-right}
+use lib.IntN.{ℤ, pos, negℤ}
 use mir.Syntax.{w64}
-use mir.Val.{toZ, ofZ}
+use mir.Val.{toZ}
 use mir.Facts.{toZ-ofZ}
 use Rattle.integers.specs.Units.{mostSplits}
 use Rattle.integers.specs.Tests.{between}
 use Rattle.integers.specs.Order.{nonneg, pos-≤ℤ}
-use Rattle.integers.specs.Within.{Within, within-le, within-self}
+use Rattle.integers.specs.Within.{within-le, within-self}
 use Rattle.integers.specs.Bits.{back}
 use Rattle.integers.specs.Held.{Held, held-mul, held-fits, held-back, held-within}
 use Rattle.curve.specs.Curve.{flat, splitsFrom, splits}

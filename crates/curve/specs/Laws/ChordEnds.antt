@@ -8,10 +8,10 @@ use mathlib.Core.Path.{_≡_, refl, sym, _∙_, ap, ap₂, subst}
 use mathlib.Core.List.{[], _∷_}
 use Prim.Native.Nat.{ℕ, zero, suc, _*_, _^_, _<_, _≤_}
 use native.Mathlib.Omega.{arith}
-use native.Mathlib.Nat.{one-le-pow, pow-suc, pow-zero, mul-mul-mul-comm}
-use lib.IntN.{ℤ, pos, _+ℤ_, _-ℤ_, _*ℤ_}
+use native.Mathlib.Nat.{one-le-pow, pow-suc, mul-mul-mul-comm}
+use lib.IntN.{ℤ, pos, _-ℤ_, _*ℤ_}
 use lib.Signed.{_≤ℤ_}
-use Rattle.integers.specs.Ring.{read, ring, comb, _⊗_}
+use Rattle.integers.specs.Ring.{read, comb, _⊗_}
 use Rattle.integers.specs.Order.{pos-≤ℤ, nonneg, ≤ℤ-scale, ≤ℤ-mul, ≤ℤ-mul-nonneg, ≤ℤ-square}
 use Rattle.integers.specs.Linear.{le, eq, _&_, linear, lin≤}
 use Rattle.integers.specs.Rounding.{roundHalfUp}

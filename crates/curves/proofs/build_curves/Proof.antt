@@ -1,22 +1,20 @@
 -- A refused outline leaves everything as it was; an accepted one goes into a cleared table.
 use mathlib.Core.Path.{_≡_, refl, sym, _∙_, ap, ap₂, subst⁻¹}
-use mathlib.Core.List.{List, [], _∷_, _++_}
+use mathlib.Core.List.{List}
 use mathlib.Core.Logic.{_≢_}
 use Prim.Native.Nat.{ℕ, _*_}
 use native.Mathlib.Omega.{arith}
 use lib.ListN.{length}
-use lib.IntN.{ℤ, pos, _*ℤ_}
+use lib.IntN.{ℤ, pos}
 use lib.Signed.{leZ-yes}
 use borrow.Author.Needs.{needs}
-use Rattle.integers.specs.Units.{greatestSheetSide, mostEdges}
 use Rattle.integers.specs.ListSum.{All}
 use Rattle.edge.specs.declared.Edge.{Edge}
 use Rattle.rasterize.specs.declared.View.{View}
 use Rattle.rasterize.specs.Added.{added}
 use Rattle.rasterize.specs.Views.{InView}
 use Rattle.rasterize.specs.Laws.Sums.{edgesPart}
-use Rattle.tile.specs.declared.Built.{Built}
-use Rattle.tile.specs.Questions.{Question, Yes, firstNo, depthOf}
+use Rattle.tile.specs.Questions.{Question, Yes, depthOf}
 use Rattle.tile.specs.Outcomes.{ifDone}
 use Rattle.tile.specs.Refusals.{question2-means}
 use Rattle.tile.specs.Laws.IfDone.{if-done, if-refused}

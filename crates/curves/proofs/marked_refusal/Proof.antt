@@ -1,10 +1,10 @@
 -- Question by question.
 use mathlib.Core.Path.{_≡_, refl, sym, _∙_, ap, ap₂, subst⁻¹}
-use mathlib.Core.Bool.{Bool, true, false, not, _&&_}
+use mathlib.Core.Bool.{true, _&&_}
 use mathlib.Core.List.{List}
-use Prim.Native.Nat.{ℕ, _+_, _*_, _^_, _<_, _≤_}
+use Prim.Native.Nat.{ℕ, _+_, _*_, _<_, _≤_}
 use native.Mathlib.Omega.{arith}
-use lib.Dec.{eqb, leb}
+use lib.Dec.{eqb}
 use lib.ListN.{length}
 use lib.IntN.{ℤ, pos, _*ℤ_}
 use mir.Syntax.{w64}
@@ -12,7 +12,7 @@ use mir.Val.{SFits, toZ}
 use mir.Facts.{toZ-pos}
 use borrow.Author.Needs.{needs}
 use borrow.Author.Tests.{le-leb, lt-leb, not-true, not-false}
-use Rattle.integers.specs.Units.{stepsPerPixel, greatestSheetCoordinate, mostPoints, mostEdges}
+use Rattle.integers.specs.Units.{stepsPerPixel, greatestSheetCoordinate, mostEdges}
 use Rattle.integers.specs.Order.{≤ℤ-trans, pos-≤ℤ}
 use Rattle.integers.specs.Machine.{known}
 use Rattle.integers.specs.Conjunction.{second-decides}
@@ -26,7 +26,7 @@ use Rattle.chords.specs.Sides.{numbers, markedContours}
 use Rattle.chords.specs.Inner.{cappedChords}
 use Rattle.chords.specs.Laws.SidesWithin.{numbers-even}
 use Rattle.tile.specs.declared.Built.{Built}
-use Rattle.tile.specs.Questions.{Question, firstNo, question4, question6}
+use Rattle.tile.specs.Questions.{Question, firstNo, question6}
 use Rattle.tile.specs.Refusals.{question4-means, question6-means}
 use Rattle.tile.specs.Laws.Asking.{After, none-asked, no-at, yes-at, refused, passed}
 use Rattle.tile.specs.Laws.IfDone.{if-done, if-refused}

@@ -20,10 +20,13 @@ returns c =
         ap (λ t. t .edges) e,
         (
           ap (λ t. t .table) e,
-          (contour-near k t, (
-            λ cs h done. subst⁻¹ (HoldsCurves (s .args .site) (contourIn k ∷ cs)) e (holds-put-curve k t done refl h),
-            (refl, refl),
-          )),
+          (
+            contour-near k t,
+            (
+              λ cs h done. subst⁻¹ (HoldsCurves (s .args .site) (contourIn k ∷ cs)) e (holds-put-curve k t done refl h),
+              (refl, refl),
+            ),
+          ),
         ),
       ),
     )

@@ -1,9 +1,8 @@
 -- By what `correct_curves` leaves.
 use mathlib.Core.Path.{refl, ap, subst⁻¹}
-use mathlib.Core.List.{_∷_}
 use borrow.Author.Needs.{needs}
 use Rattle.corrections.specs.Corrections.{tileOf}
-use Rattle.curves.specs.CurvedCorrections.{takingCurve, contourIn}
+use Rattle.curves.specs.CurvedCorrections.{takingCurve}
 use Rattle.curves.specs.CurvedHolding.{HoldsCurves}
 use Rattle.curves.specs.Laws.CurvedKept.{contour-near, holds-taken-curve}
 use Rattle.curves.proofs.take_curves.Statement.{statement}
@@ -20,10 +19,13 @@ returns c =
         ap (λ t. t .edges) e,
         (
           ap (λ t. t .table) e,
-          (contour-near k t, (
-            λ others h done. subst⁻¹ (HoldsCurves (s .args .site) (others)) e (holds-taken-curve k t done refl h),
-            (refl, refl),
-          )),
+          (
+            contour-near k t,
+            (
+              λ others h done. subst⁻¹ (HoldsCurves (s .args .site) (others)) e (holds-taken-curve k t done refl h),
+              (refl, refl),
+            ),
+          ),
         ),
       ),
     )

@@ -8,11 +8,11 @@
 --   holds-put-curve,
 --   holds-taken-curve            what that holds
 --   curve-same-side              the call has the tile's side
-use mathlib.Core.Path.{_≡_, refl, sym, _∙_, ap, ap₂, subst}
+use mathlib.Core.Path.{_≡_, sym, _∙_, ap, ap₂, subst}
 use mathlib.Core.Bool.{true, _&&_}
 use mathlib.Core.List.{List, [], _∷_, _++_, append-nil}
 use mathlib.Core.Logic.{_↔_}
-use Prim.Native.Nat.{ℕ, _+_, _*_, _≤_}
+use Prim.Native.Nat.{ℕ, _+_, _≤_}
 use native.Mathlib.Omega.{arith}
 use native.Mathlib.Nat.{le-of-eq}
 use lib.Dec.{eqb}
@@ -30,8 +30,8 @@ use Rattle.curve.specs.Curve.{OnSheet as CoordinateOnSheet}
 use Rattle.chords.specs.Sides.{numbers, MarkedContour, markedContour, sidesOf, markedContours}
 use Rattle.chords.specs.NearCurves.{NearChords, side-near}
 use Rattle.chords.specs.Laws.SidesWithin.{contour-within}
-use Rattle.chords.specs.Chords.{contourChords, outlineChords}
-use Rattle.tile.specs.Questions.{Question, Yes, firstNo, question4, question6}
+use Rattle.chords.specs.Chords.{contourChords}
+use Rattle.tile.specs.Questions.{Question, Yes, question4}
 use Rattle.tile.specs.Refusals.{question2-means}
 use Rattle.tile.specs.Laws.IfDone.{if-done}
 use Rattle.tile.specs.Laws.FirstNo.{firstNo-zero}
@@ -48,7 +48,7 @@ use Rattle.curves.specs.CurveRefusals.{question3Marked-means}
 use Rattle.curves.specs.CurveTheorem.{AcceptedMarked, marked-accepted}
 use Rattle.curves.specs.CurvedCorrections.{CurveCall, curveCallOf, contourIn, edgesIn, curveCallQuestions, correctCurveRefusal, correctedCurve}
 use Rattle.curves.specs.CurvedHolding.{isShaped, HoldsCurves}
-use Rattle.curves.specs.Laws.Written.{isCurve}
+use Rattle.curves.specs.Laws.Written.{isMarkedContour}
 use Rattle.curves.specs.Laws.CurvedSums.{holds-of-curve-sums, curve-sums-of-holds, curve-sums-length, curve-sums-put, curve-sums-taken}
 
 -- ---- a single contour
@@ -120,7 +120,7 @@ module _ (k : CurveCall) (t : Tile) where
     shape = question3Marked-means (contourIn k .coordinates) (k .marks) .1 (placed-length (k .placement) (k .points) ∙ a .points-length)
 
     -- questions 4, 16 and 6
-    test : isCurve (reach (k .site)) (contourIn k) ≡ true
+    test : isMarkedContour (reach (k .site)) (contourIn k) ≡ true
     test =
         let o = all-back Yes (siteQuestions (k .site) (t .table))
         (markedQuestions (reach (k .site)) (k .points) (k .count ∷ []) (k .marks) (k .placement) (alreadyIn (k .change) (t .edges))) (accepted .all-yes) in

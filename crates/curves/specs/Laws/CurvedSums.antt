@@ -12,7 +12,7 @@
 --   curve-sums-in-range          the table's length; its entries are at most what the most edges add, and so in question 9's range
 --   curve-sums-put,
 --   curve-sums-taken             one contour more; one fewer
-use mathlib.Core.Path.{_≡_, refl, sym, _∙_, ap, ap₂, subst, subst⁻¹}
+use mathlib.Core.Path.{_≡_, sym, _∙_, ap, ap₂, subst, subst⁻¹}
 use mathlib.Core.Bool.{true, _&&_}
 use mathlib.Core.List.{List, [], _∷_, Perm, Perm·refl}
 use Prim.Native.Nat.{ℕ, _+_, _*_, _-_, _^_, _≤_}
@@ -24,9 +24,8 @@ use Rattle.integers.specs.Units.{stepsPerPixel, mostEdges, entryLimit, builtEnt
 use Rattle.integers.specs.Order.{≤ℤ-trans, pos-≤ℤ}
 use Rattle.integers.specs.Within.{Within, within-le}
 use Rattle.integers.specs.ListSum.{All, all-map, tally, tally-perm, length-joined}
-use Rattle.integers.specs.Tests.{every, and-true-means, every-means}
+use Rattle.integers.specs.Tests.{every, and-true-means}
 use Rattle.integers.specs.Every.{every-perm}
-use Rattle.edge.specs.declared.Edge.{Edge}
 use Rattle.placement.specs.declared.Placement.the-variants.{None}
 use Rattle.accuracy.specs.Tile.{ClosedOnTile}
 use Rattle.accuracy.specs.Laws.Coordinates.{OnSide}
@@ -37,7 +36,7 @@ use Rattle.chords.specs.Chords.{contourChords, outlineChords}
 use Rattle.chords.specs.NearCurves.{sides-near}
 use Rattle.chords.specs.Laws.SidesWithin.{Right as RightContour}
 use Rattle.chords.specs.Laws.ClosedChords.{chords-closed-on}
-use Rattle.tile.specs.Questions.{Yes, depthOf, question2, question4, question6, question9}
+use Rattle.tile.specs.Questions.{Yes, depthOf, question4, question6, question9}
 use Rattle.tile.specs.Refusals.{question2-means, question6-means}
 use Rattle.tile.specs.Laws.IfDone.{if-done}
 use Rattle.tile.specs.Laws.Answers.{in-range-entries}
@@ -57,7 +56,7 @@ use Rattle.curves.specs.CurveOutcomes.{curvesRefusal, curvesResult, curv
 use Rattle.curves.specs.FaithfulCurves.{FaithfulAt}
 use Rattle.curves.specs.CurveTheorem.{edges-faithful}
 use Rattle.curves.specs.CurvedHolding.{isShaped, writtenPoints, writtenCounts, writtenMarks, HoldsCurves}
-use Rattle.curves.specs.Laws.Written.{Shaped, shaped-means, isCurve, written-edges, written-accepted}
+use Rattle.curves.specs.Laws.Written.{Shaped, shaped-means, isMarkedContour, written-edges, written-accepted}
 
 abbrev size : MarkedContour → ℕ
 size c = length (contourChords c)
@@ -67,7 +66,7 @@ pub record CurveSums (site : Site) (cs : List MarkedContour) (t : Tile) : Type 0
   pub shaped : every isShaped cs ≡ true
   pub adds-up : AddsUp (cellsAt site) (partOf contourChords site) size cs t
   pub few : tally size cs ≤ mostEdges
-  pub right : every (isCurve (reach site)) cs ≡ true
+  pub right : every (isMarkedContour (reach site)) cs ≡ true
 
 -- ---- any order
 pub curves-reordered : {site : Site} {cs ds : List MarkedContour} {t : Tile} → Perm cs ds → CurveSums site cs t → CurveSums site ds t
@@ -76,24 +75,24 @@ curves-reordered {site} p s = record {
   shaped = sym (every-perm isShaped p) ∙ s .shaped;
   adds-up = adds-up-perm (cellsAt site) (partOf contourChords site) size p (s .adds-up);
   few = subst (λ n. n ≤ mostEdges) (tally-perm size p) (s .few);
-  right = sym (every-perm (isCurve (reach site)) p) ∙ s .right;
+  right = sym (every-perm (isMarkedContour (reach site)) p) ∙ s .right;
 }
 
 -- ---- coordinates of contours that are right
-on-sides : (side : ℕ) → side ≡ 2 ^ depthOf side → (cs : List MarkedContour) → All Shaped cs → every (isCurve side) cs ≡ true → All (RightContour (OnSide (depthOf side))) cs
+on-sides : (side : ℕ) → side ≡ 2 ^ depthOf side → (cs : List MarkedContour) → All Shaped cs → every (isMarkedContour side) cs ≡ true → All (RightContour (OnSide (depthOf side))) cs
 on-sides side power [] h e = tt
 on-sides side power (c ∷ cs) h e =
-    let both = and-true-means (isCurve side c) (every (isCurve side) cs) .0 e in
+    let both = and-true-means (isMarkedContour side c) (every (isMarkedContour side) cs) .0 e in
     let inner = and-true-means (every isMark (c .marks)) (question6 side (c .coordinates) .answer) .0
     (and-true-means (question4 (length (c .marks) ∷ []) .answer) (every isMark (c .marks) && question6 side (c .coordinates) .answer) .0 (both .0) .1) in
     ((h .0, on-side side (c .coordinates) power (inner .1)), on-sides side power cs (h .1) (both .1))
 
 -- the width of the greatest sheet
-on-sheets : (side : ℕ) → stepsPerPixel * side ≤ greatestSheetCoordinate → (cs : List MarkedContour) → All Shaped cs → every (isCurve side) cs ≡ true
+on-sheets : (side : ℕ) → stepsPerPixel * side ≤ greatestSheetCoordinate → (cs : List MarkedContour) → All Shaped cs → every (isMarkedContour side) cs ≡ true
     → All (RightContour CoordinateOnSheet) cs
 on-sheets side wide [] h e = tt
 on-sheets side wide (c ∷ cs) h e =
-    let both = and-true-means (isCurve side c) (every (isCurve side) cs) .0 e in
+    let both = and-true-means (isMarkedContour side c) (every (isMarkedContour side) cs) .0 e in
     let inner = and-true-means (every isMark (c .marks)) (question6 side (c .coordinates) .answer) .0
     (and-true-means (question4 (length (c .marks) ∷ []) .answer) (every isMark (c .marks) && question6 side (c .coordinates) .answer) .0 (both .0) .1) in (
       (h .0, all-map (λ z i. (i .0, ≤ℤ-trans (i .1) (pos-≤ℤ wide))) (c .coordinates) (question6-means side (c .coordinates) .0 (inner .1))),
@@ -195,7 +194,7 @@ curve-sums-of-holds {site} {cs} {t} h =
 
 -- ---- one contour more, one fewer
 module _ {site : Site} (c : MarkedContour) where
-  pub curve-sums-put : {cs : List MarkedContour} {t after : Tile} → isShaped c ≡ true → isCurve (reach site) c ≡ true → t .edges + size c ≤ mostEdges
+  pub curve-sums-put : {cs : List MarkedContour} {t after : Tile} → isShaped c ≡ true → isMarkedContour (reach site) c ≡ true → t .edges + size c ≤ mostEdges
       → after ≡ tileOf (leftBy site Put (contourChords c) (t .table)) (t .edges + size c) → CurveSums site cs t → CurveSums site (c ∷ cs) after
   unfolding tally
   curve-sums-put {cs} {t} shape test room e s = record {
@@ -214,5 +213,5 @@ module _ {site : Site} (c : MarkedContour) where
     shaped = and-true-means (isShaped c) (every isShaped others) .0 (s .shaped) .1;
     adds-up = subst⁻¹ (AddsUp (cellsAt site) (partOf contourChords site) size others) e (adds-up-taken (cellsAt site) (partOf contourChords site) size c (s .adds-up));
     few = omega (arith, s .few);
-    right = and-true-means (isCurve (reach site) c) (every (isCurve (reach site)) others) .0 (s .right) .1;
+    right = and-true-means (isMarkedContour (reach site) c) (every (isMarkedContour (reach site)) others) .0 (s .right) .1;
   }

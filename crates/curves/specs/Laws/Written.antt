@@ -4,12 +4,12 @@
 --   Shaped c, shaped-means       a contour with as many coordinates as its marks say
 --   curves-back                  the contours of the outline are those that it was made of
 --   written-marks, written-points there is a mark for each edge, and as many coordinates as the marks say
---   isCurve reach c              questions 4, 16 and 6 of one contour
+--   isMarkedContour reach c              questions 4, 16 and 6 of one contour
 --   curves-asked                 they are answered yes of the outline exactly where they are of each contour
 --   written-accepted             so building accepts contours exactly where each of them is one, and they have no more edges than the most
-use mathlib.Core.Path.{_≡_, refl, sym, _∙_, ap, ap₂, subst, subst⁻¹}
+use mathlib.Core.Path.{_≡_, refl, sym, _∙_, ap, ap₂}
 use mathlib.Core.Bool.{Bool, true, _&&_}
-use mathlib.Core.List.{List, [], _∷_, _++_, map}
+use mathlib.Core.List.{List, [], _∷_, _++_}
 use mathlib.Core.Logic.{_↔_}
 use Prim.Native.Nat.{ℕ, _+_, _*_, _≤_}
 use native.Mathlib.Omega.{arith}
@@ -22,16 +22,15 @@ use Rattle.integers.specs.ListSum.{All, all-append, all-front, all-back, tally,
 use Rattle.integers.specs.Tests.{every, between, eqb-means, and-true-means, every-means}
 use Rattle.integers.specs.Every.{every-append, every-both}
 use Rattle.placement.specs.declared.Placement.the-variants.{None}
-use Rattle.placement.specs.Placed.{placed}
 use Rattle.placement.specs.Laws.PlacedPoints.{placed-none}
 use Rattle.accuracy.specs.Outline.{edgeCount}
-use Rattle.chords.specs.Sides.{numbersOf, numbers, MarkedContour, markedContour, markedContours}
+use Rattle.chords.specs.Sides.{numbers, MarkedContour, markedContour, markedContours}
 use Rattle.chords.specs.Chords.{outlineChords}
 use Rattle.tile.specs.Questions.{Yes, question2, question4, question6}
 use Rattle.sheet.specs.declared.Site.{Site}
 use Rattle.sheet.specs.Sites.{tileSide, reach, SiteYes, siteQuestions}
 use Rattle.sheet.specs.Laws.SiteEdges.{site-answers}
-use Rattle.curves.specs.MarkedQuestions.{isMark, question16, question3Marked, edgesMarked, markedQuestions, curveQuestions}
+use Rattle.curves.specs.MarkedQuestions.{isMark, edgesMarked, markedQuestions}
 use Rattle.curves.specs.CurveOutcomes.{curvesRefusal}
 use Rattle.curves.specs.CurveRefusals.{question16-means, question3Marked-means, question5Chords-means}
 use Rattle.curves.specs.CurveTheorem.{curves-zero}
@@ -74,8 +73,8 @@ written-points (c ∷ cs) h =
     length-append (c .coordinates) (writtenPoints cs) ∙ ap₂ _+_ (h .0) (written-points cs (h .1)) ∙ sym (numbers-append (c .marks) (writtenMarks cs))
 
 -- ---- what is asked of each contour
-abbrev pub isCurve : ℕ → MarkedContour → Bool
-isCurve side c = question4 (length (c .marks) ∷ []) .answer && (every isMark (c .marks) && question6 side (c .coordinates) .answer)
+abbrev pub isMarkedContour : ℕ → MarkedContour → Bool
+isMarkedContour side c = question4 (length (c .marks) ∷ []) .answer && (every isMark (c .marks) && question6 side (c .coordinates) .answer)
 
 every-joined : {A B : Type 0} (test : B → Bool) (f : A → List B) (l : List A) → every test (joined f l) ≡ every (λ a. every test (f a)) l
 unfolding joined
@@ -89,7 +88,7 @@ counts-asked (c ∷ cs) =
     ∙ ap (λ b. question4 (length (c .marks) ∷ []) .answer && b) (counts-asked cs)
 
 all-asked : (side : ℕ) (cs : List MarkedContour)
-    → every (isCurve side) cs ≡ (question4 (writtenCounts cs) .answer && (every isMark (writtenMarks cs) && question6 side (writtenPoints cs) .answer))
+    → every (isMarkedContour side) cs ≡ (question4 (writtenCounts cs) .answer && (every isMark (writtenMarks cs) && question6 side (writtenPoints cs) .answer))
 all-asked side cs =
     let on = between (pos 0) (pos (stepsPerPixel * side)) in
     every-both (λ c. question4 (length (c .marks) ∷ []) .answer) (λ c. every isMark (c .marks) && every on (c .coordinates)) cs
@@ -98,7 +97,7 @@ all-asked side cs =
     ∙ sym (ap₂ _&&_ (every-joined isMark (λ c. c .marks) cs) (every-joined on (λ c. c .coordinates) cs)))
 
 pub curves-asked : (side : ℕ) (cs : List MarkedContour)
-    → (every (isCurve side) cs ≡ true) ↔ (Yes (question4 (writtenCounts cs)) × (every isMark (writtenMarks cs) ≡ true) × Yes (question6 side (writtenPoints cs)))
+    → (every (isMarkedContour side) cs ≡ true) ↔ (Yes (question4 (writtenCounts cs)) × (every isMark (writtenMarks cs) ≡ true) × Yes (question6 side (writtenPoints cs)))
 curves-asked side cs =
     let four = question4 (writtenCounts cs) .answer in
     let marked = every isMark (writtenMarks cs) in
@@ -111,7 +110,7 @@ curves-asked side cs =
 
 -- ---- what building asks of contours that are written as an outline
 abbrev Right : Site → List MarkedContour → List ℤ → Type 0
-Right site cs before = SiteYes site × Yes (question2 (tileSide site) before) × (every (isCurve (reach site)) cs ≡ true) × (length (outlineChords cs) ≤ mostEdges)
+Right site cs before = SiteYes site × Yes (question2 (tileSide site) before) × (every (isMarkedContour (reach site)) cs ≡ true) × (length (outlineChords cs) ≤ mostEdges)
 
 module _ (site : Site) (cs : List MarkedContour) (shaped : All Shaped cs) (before : List ℤ) where
   pub written-edges : edgesMarked (writtenPoints cs) (writtenCounts cs) (writtenMarks cs) None ≡ outlineChords cs
