@@ -11,6 +11,7 @@
 --   entryLimit, builtEntryLimit, figureLimit, fullGrey, textLimit   the table, what is drawn of it, the program
 --   partsPerStep, factorLimit, offsetLimit, movableLimit,
 --   placedLimit                                                     placements
+--   mostSplits, mostChords                                          curves
 use mathlib.Core.Path.{_≡_, refl}
 use Prim.Native.Nat.{ℕ, _+_, _*_, _^_}
 

@@ -313,9 +313,9 @@ pub extern "C" fn mattuliyan_build_curves_on_sheet(
     ensures { λ _. ⌜ (now (points .exit) ≡ now (points .entry)) × (now (counts .exit) ≡ now (counts .entry)) × (now (marks .exit) ≡ now (marks .entry)) × (now (placement .exit) ≡ now (placement .entry)) ⌝ }
 {
     let place = place_of(sheet, side, column, row);
-    let site = Site::OnSheet(place);
+    let there = Site::OnSheet(place);
     let moved = placement_of(placement);
-    let crossing = curves::build_curves(site, points, counts, marks, moved, table);
+    let crossing = curves::build_curves(there, points, counts, marks, moved, table);
     *edges = crossing.edges;
     crossing.number
 }
@@ -342,9 +342,9 @@ pub extern "C" fn mattuliyan_put_curves_on_sheet(
     ensures { λ _. ⌜ (now (points .exit) ≡ now (points .entry)) × (now (marks .exit) ≡ now (marks .entry)) × (now (placement .exit) ≡ now (placement .entry)) ⌝ }
 {
     let place = place_of(sheet, side, column, row);
-    let site = Site::OnSheet(place);
+    let there = Site::OnSheet(place);
     let moved = placement_of(placement);
-    curves::put_curves(site, points, count, marks, moved, edges, table)
+    curves::put_curves(there, points, count, marks, moved, edges, table)
 }
 
 // `curves::take_curves` on a sheet: `edges` is the record, read and written.
@@ -369,9 +369,9 @@ pub extern "C" fn mattuliyan_take_curves_on_sheet(
     ensures { λ _. ⌜ (now (points .exit) ≡ now (points .entry)) × (now (marks .exit) ≡ now (marks .entry)) × (now (placement .exit) ≡ now (placement .entry)) ⌝ }
 {
     let place = place_of(sheet, side, column, row);
-    let site = Site::OnSheet(place);
+    let there = Site::OnSheet(place);
     let moved = placement_of(placement);
-    curves::take_curves(site, points, count, marks, moved, edges, table)
+    curves::take_curves(there, points, count, marks, moved, edges, table)
 }
 
 // `tile::figures`.

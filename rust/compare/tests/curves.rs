@@ -1,4 +1,4 @@
-//! Outlines with curved edges: some thousand cases and series of corrections, always the same ones; what these meet too seldom; and the letters of the
+//! Outlines with curved edges: some hundred cases and series of corrections, always the same ones; what these meet too seldom; and the letters of the
 //! fonts that are installed.
 use compare::calls::{build_curves, correct, correct_owned, Correcting, Ground, Tile};
 use compare::curves::{self, Curved, Piece, GROUNDS};
@@ -29,7 +29,7 @@ fn library_and_reference_agree_on_curves() {
     println!("curves: {seen}");
     let drawn = &seen.drawn;
     let times: Vec<String> = BUILDING.iter().map(|&number| format!("{number}: {}", drawn.answered[number])).collect();
-    println!("curves: answers to building: {}", times.join(", "));
+    println!("curves: answers to building, and to drawing, which is never refused: {}", times.join(", "));
     // The run did what it says: every side and every pair of sides came, every k with second differences at its limit and one past it, halves that go
     // to even steps and to odd ones, every number was answered many times, and no other.
     assert_eq!(seen.grounds, vec![CASES / GROUNDS; GROUNDS as usize]);
@@ -240,6 +240,23 @@ fn as_many_chords_as_there_may_be() {
 }
 
 #[test]
+fn counts_are_summed_in_more_than_32_bits() {
+    // question 5 is not asked before question 16, so that marks are held to a sum of any size: here 2^32, and three edges more
+    let mut counts = vec![1024; 1 << 22];
+    for ground in [Ground::Tile(1), Ground::Sheet(at(2, 1, 1, 0))] {
+        let built = |numbers: usize, counts: &[u32], marks: usize| {
+            let curves = Curves { points: &[5; 6][..numbers], marks: &[0; 3][..marks] };
+            build_curves(&Spec, ground, curves, counts, Placement::None, &held(ground)).unwrap().map(|(edges, _)| edges)
+        };
+        assert_eq!((built(0, &[], 0), built(6, &[3], 3)), (Ok(0), Ok(3)));
+        assert_eq!(built(0, &counts, 0), Err(16));
+        counts.push(3);
+        assert_eq!(built(6, &counts, 3), Err(16));
+        counts.pop();
+    }
+}
+
+#[test]
 fn every_mark_and_every_coordinate_is_asked_for() {
     for ground in [Ground::Tile(1), Ground::Sheet(at(2, 1, 1, 0))] {
         let limit = STEPS * i64::from(ground.reach());
@@ -350,7 +367,7 @@ fn records_about_each_border() {
 
 #[test]
 fn a_tile_filled_with_curves() {
-    // the letter is put in a hundred times, and two and four straight edges fill the tile; then all is taken out again, as its chords
+    // the letter is put in 102 times, and four straight edges fill the tile; then all is taken out again, the letters as their chords
     for ground in [Ground::Tile(2), Ground::Sheet(at(4, 2, 0, 0))] {
         let empty = Tile { record: 0, table: vec![0; 4] };
         let owned = mattuliyan::Tile::build_curves(ground.for_library(), &[], &[], &[], mattuliyan::Placement::None);
