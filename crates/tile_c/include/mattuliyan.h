@@ -12,7 +12,8 @@
  * tiles of 1, 2, 4, 8, 16 or 32 pixels, each at its place on the sheet.
  *
  * An outline may have curved edges, quadratic Bezier curves of two ends and a control point. The calls for those take a mark for each edge, 0
- * straight or 1 curved, and draw 2^k chords in place of a curve; all else that is said of edges holds of the chords.
+ * straight or 1 curved, and draw 2^k chords in place of a curve. Counts and marks are of the edges as marked; what is drawn, and how near it is,
+ * goes by the chords.
  *
  * Each call answers 0 where the work is done, or the number of the first question that is answered no. Then no table, no picture and no
  * record has changed; but the calls whose names begin with mattuliyan_build then write 0 to *edges, and mattuliyan_cell to *figure. (So the
@@ -32,9 +33,10 @@
  *    2  Has the table exactly side x side entries? (On a sheet, the side is the tile's.)
  *    3  Are the points exactly twice as many numbers as the counts' sum? (Putting in and taking out have one count.) Of curves: are they exactly
  *       two for each straight edge and four for each curved one?
- *    4  Is every count from 3 to 1,024? Of curves: it counts edges as they are marked.
+ *    4  Is every count from 3 to 1,024? Of curves: a count is how many edges, as marked, a contour has.
  *    5  Is the counts' sum at most 1,024? For putting in: the record's count and the contour's together. (Taking out is never answered 5.) Of
- *       curves: the number of chords, a straight edge being one. (There taking out is answered 5 where the contour has more.)
+ *       curves: is the number of chords, a straight edge being one, at most 1,024, for putting in with the record's count? (There taking out is
+ *       answered 5 where the contour has more.)
  *    6  Is every coordinate, as placed, from 0 to 256 x side? On a sheet: to 256 x sheet, the sheet's side. Of curves: control points' too.
  *    7  Is the level at most the depth, the number of halvings from the side to 1?
  *    8  Has the picture exactly 4^level places?
@@ -128,7 +130,7 @@ uint32_t mattuliyan_take_on_sheet(uint32_t sheet, uint32_t side, uint32_t column
  * ends p0 and p2 and the control point p1 becomes 2^k chords at equal steps of its parameter, where k is the least from 0 to 7 such that neither
  * coordinate of p0 - 2 p1 + p2 is more than 4 x 4^k in magnitude: so no chord leaves its curve by more than a step in x or y. The chords' ends
  * are then rounded to the nearest step, halves towards the larger. The table is that of the chords, and *edges becomes their number, a straight
- * edge being one; it is the table that mattuliyan_build would leave for the chords' ends. */
+ * edge being one. */
 uint32_t mattuliyan_build_curves(uint32_t side, const int64_t *points, size_t points_length, const uint32_t *counts,
                                  size_t counts_length, const uint8_t *marks, size_t marks_length, const double *placement,
                                  size_t placement_length, int64_t *table, size_t table_length, uint32_t *edges);
@@ -139,8 +141,9 @@ uint32_t mattuliyan_put_curves(uint32_t side, const int64_t *points, size_t poin
                                size_t marks_length, const double *placement, size_t placement_length, uint32_t *edges,
                                int64_t *table, size_t table_length);
 
-/* As mattuliyan_take, of a contour that may have curved edges, likewise. A contour is known by its chords: one that was put in with marks may be
- * taken out without them, as the contour of its chords' ends, and the other way round. */
+/* As mattuliyan_take, of a contour that may have curved edges, its points and marks as for mattuliyan_build_curves. A contour is known by its
+ * points as placed and its marks. One without marks that are 1 may be put in or taken out by mattuliyan_put and mattuliyan_take as well, so a
+ * tile may hold contours of either kind. */
 uint32_t mattuliyan_take_curves(uint32_t side, const int64_t *points, size_t points_length, uint32_t count, const uint8_t *marks,
                                 size_t marks_length, const double *placement, size_t placement_length, uint32_t *edges,
                                 int64_t *table, size_t table_length);

@@ -20,8 +20,7 @@ pub enum Site {
 /// A curve is a quadratic Bézier curve. With the ends p0 and p2 and the control point p1, as placed, it becomes 2^k chords at equal steps of its
 /// parameter, where k is the least from 0 to 7 such that neither coordinate of p0 − 2 × p1 + p2 is more than 4 × 4^k in magnitude: so no chord leaves
 /// its curve by more than a step in x or y. The chords' ends are then rounded to the nearest step, halves towards the larger. The answer is the number
-/// of chords, a straight edge being one, and the table is the one that [`build`](crate::build) would leave for the chords' ends: what is drawn is as
-/// near to the chords' ink as that.
+/// of chords, a straight edge being one. What is drawn, and how near it is to the ink, goes by the chords.
 ///
 /// ```
 /// # fn main() -> Result<(), Box<dyn std::error::Error>> {
@@ -150,8 +149,9 @@ pub fn put_curves(
 }
 
 /// Takes a contour that may have curved edges out of a tile again: as [`put_curves`], with its values taken from the table and the number of its chords
-/// from `edges`, the record. A contour is known by its chords: one that was put in with marks may be taken out without them, as the contour of its
-/// chords' ends, and the other way round. What [`take`](crate::take) says of contours that are not in holds here too.
+/// from `edges`, the record. A contour is known by its points as placed and its marks. One with no mark that is 1 may be put in or taken out by
+/// [`put`](crate::put) and [`take`](crate::take) as well, so a tile may hold contours of either kind. What [`take`](crate::take) says of contours that
+/// are not in holds here too.
 pub fn take_curves(
     site: Site,
     points: &[i64],

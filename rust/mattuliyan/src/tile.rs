@@ -173,9 +173,9 @@ impl Tile {
         crate::put_curves(site, points, count, marks, placement, &mut self.edges, &mut self.table)
     }
 
-    /// Takes a contour out again, as [`put_curves`](Tile::put_curves) put it in. It is known by its chords, in their order, so it may be taken out under
-    /// another placement that leads to the same points, or by [`take`](Tile::take) as the contour of its chords' ends. More chords than are in are
-    /// refused (13), and more than 1,024 (5); a contour that is not in is not.
+    /// Takes a contour out again, as [`put_curves`](Tile::put_curves) put it in. It is known by its points as placed and its marks, so it may be taken out
+    /// under another placement that leads to the same points. More chords than are in are refused (13), and more than 1,024 (5); a contour that is not in
+    /// is not.
     pub fn take_curves(&mut self, points: &[i64], marks: &[u8], placement: Placement) -> Result<(), Refusal> {
         let (site, count) = (self.site(), edges_marked(marks.len()));
         crate::take_curves(site, points, count, marks, placement, &mut self.edges, &mut self.table)
