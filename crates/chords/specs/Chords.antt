@@ -10,8 +10,9 @@ use mathlib.Core.Path.{_≡_, refl}
 use mathlib.Core.List.{List, [], _∷_}
 use Prim.Native.Nat.{ℕ, suc, _+_, _^_}
 use lib.ListN.{length}
-use lib.IntN.{pos}
+use lib.IntN.{ℤ, pos}
 use Rattle.integers.specs.ListSum.{tally, joined}
+use Rattle.integers.specs.Rounding.{floor, roundHalfUp}
 use Rattle.edge.specs.declared.Edge.{Edge}
 use Rattle.curve.specs.Curve.{bend, splitsFrom, splits, chordEnd}
 use Rattle.haar.specs.Pictures.{tabulate}
@@ -45,3 +46,14 @@ closing-curve :
     length (contourChords (markedContour (0 ∷ 0 ∷ 1 ∷ []) (pos 0 ∷ pos 0 ∷ pos 256 ∷ pos 0 ∷ pos 0 ∷ pos 256 ∷ pos 256 ∷ pos 256 ∷ []))) ≡ 2 + 16
 unfolding tally joined sidesFrom chordsOf splitsFrom tabulate
 closing-curve = refl
+
+-- And edge by edge, where the two coordinates bend otherwise: half way the curve is at 15/2, which goes to 8, and at 12.
+abbrev point : ℤ → ℤ → Point
+point x y = record { x = x; y = y }
+
+drawn-edges :
+    contourChords (markedContour (0 ∷ 0 ∷ 1 ∷ []) (pos 0 ∷ pos 0 ∷ pos 20 ∷ pos 0 ∷ pos 20 ∷ pos 16 ∷ pos 5 ∷ pos 16 ∷ []))
+    ≡ edgeBetween (point (pos 0) (pos 0)) (point (pos 20) (pos 0)) ∷ edgeBetween (point (pos 20) (pos 0)) (point (pos 20) (pos 16))
+    ∷ edgeBetween (point (pos 20) (pos 16)) (point (pos 8) (pos 12)) ∷ edgeBetween (point (pos 8) (pos 12)) (point (pos 0) (pos 0)) ∷ []
+unfolding tally joined sidesFrom chordsOf splitsFrom tabulate roundHalfUp floor
+drawn-edges = refl
