@@ -6,11 +6,10 @@ pub mod LevelNumbers
 pub mod CellDetails
 -- one level up
 pub mod Above
--- a list with its first entries replaced
-pub mod Overwrite
--- a row of figures, from the row one level up
-pub mod Refining
--- a row of figures, from the root down
-pub mod Descent
--- a picture, row by row
-pub mod PictureRows
+-- two rows of a level, from the row of their parents
+pub mod TwoRows
+-- a level, from the one above
+
+pub mod NextLevel
+-- pictures, one after the other
+pub mod Stacking

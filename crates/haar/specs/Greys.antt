@@ -7,11 +7,12 @@
 --   grey side num den            the grey of num / den: by that rule, of its magnitude
 --   greyOf side f                the grey of the figure f
 --   OneApart a b                 two greys that are at most one apart
+--   SameGrey f most n            n is at most the full figure `most`, and has the grey of the figure f
 -- Checks
 --   half-pixel, half-pixel-below half a pixel's ink has the grey 128, either way round
 --   full-pixel-below             a pixel's ink below zero has the full grey
 use mathlib.Core.Path.{_≡_, refl}
-use Prim.Native.Nat.{ℕ, _+_, _*_, _≤_}
+use Prim.Native.Nat.{ℕ, _+_, _*_, _<_, _≤_}
 use lib.IntN.{ℤ, pos, negℤ, natAbs, _*ℤ_}
 use Rattle.integers.specs.Units.{unitsPerPixel, fullGrey}
 use Rattle.integers.specs.MinMax.{min, max}
@@ -54,3 +55,7 @@ full-pixel-below = refl
 pub record OneApart (a b : ℕ) : Type 0 where
   pub up : a ≤ b + 1
   pub down : b ≤ a + 1
+
+pub record SameGrey (f : ℤ) (most n : ℕ) : Type 0 where
+  pub few : n ≤ most
+  pub same : (side : ℕ) → 0 < side → full side ≡ most → inkGrey side (pos n) 1 ≡ greyOf side f

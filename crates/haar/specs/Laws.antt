@@ -17,6 +17,8 @@ pub mod Quarters
 pub mod FigureLimit
 -- pictures
 pub mod Pictures
+-- all levels in one list
+pub mod Pyramid
 -- the list of a table's entries has its coefficients, and no other list has
 pub mod Entries
 -- totals of a level

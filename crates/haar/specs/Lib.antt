@@ -16,6 +16,8 @@ pub mod Plane
 -- what drawing asks of its caller, and what the contracts of its inner functions cite
 pub mod Drawable
 pub mod Pairs
-pub mod Rows
+pub mod Levels
+-- all levels in one list
+pub mod Pyramid
 -- laws
 pub mod Laws

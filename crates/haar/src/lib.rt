@@ -8,18 +8,18 @@
 //                                                                                      |         -----    -----+-----
 //       h is plus on the left, v above, d in the upper left and lower right            |          − v      − d | + d
 //
-// A picture is drawn row by row. The cells of one row lie, at each level above, in one row too, of half as many cells each time. So a row begins as
-// the root alone and is refined in place, level by level, into 2, 4, 8 .. figures. Along a row v keeps its sign, and two children that lie side by
-// side differ in the signs of h and d alone:
+// A picture is drawn level by level, from the root down: a list begins as the root alone and is refined in place into the figures of 4, 16, 64 ..
+// cells. A row of cells has its children in two rows. Along each of these v keeps its sign, and two children that lie side by side differ in the
+// signs of h and d alone:
 //
 //       left, right  =  (f ± 4^j v)  plus and minus  (4^j h ± 4^j d)
 //
-// A row of level L takes 1 + 2 + 4 + .. + 2^(L−1) such pairs, so that a picture takes fewer pairs than it has cells. Greys need one row of figures,
-// at most 64, beside the picture. One cell alone takes a pair for each level. Figures of a table whose entries are within 2^40 are within 2^52, so
-// no number passes 64 bits.
+// The children of the last cell are put in first, so that no figure is overwritten before it is used. A picture takes fewer than two such pairs for
+// three of its cells. Greys need the figures of the level above, at most 1,024, beside the picture; all levels of greys in one list need no more. One
+// cell alone takes a pair for each level. Figures of a table whose entries are within 2^40 are within 2^52, so no number passes 64 bits.
 ghost use mathlib.Core.Path.{_≡_};
-ghost use Prim.Native.Nat.{suc, _+_, _*_, _/_, _%_, _^_, _<_, _≤_};
-ghost use lib.ListN.{length, getD};
+ghost use Prim.Native.Nat.{suc, _+_, _*_, _-_, _/_, _%_, _^_, _<_, _≤_};
+ghost use lib.ListN.{length, set};
 ghost use lib.IntN.{pos, _*ℤ_};
 ghost use Rattle.integers.specs.Units.{greatestDepth, greatestSide};
 ghost use Rattle.integers.specs.Within.{Within};
@@ -28,17 +28,23 @@ ghost use Rattle.haar.specs.Cells.{children};
 ghost use Rattle.haar.specs.Table.{index};
 ghost use Rattle.haar.specs.Greys.{greyOf};
 ghost use Rattle.haar.specs.Plane.{dimensions, hDetail, at, figureIn, pictureIn};
-ghost use Rattle.haar.specs.Drawable.{DrawableCell, DrawablePicture};
+ghost use Rattle.haar.specs.Drawable.{Drawable, DrawableCell, DrawablePicture};
 ghost use Rattle.haar.specs.Pairs.{Refinable, scaleLimit, PairBounds, pairOf, IsPair};
-ghost use Rattle.haar.specs.Rows.{RefinableRow, overwrite, rowOver, DrawableRow};
+ghost use Rattle.haar.specs.Levels.{putPair, HasFigures, DrawableBelow, RowParents, RowsBelow, Parents};
+ghost use Rattle.haar.specs.Pyramid.{places, pyramidIn, DrawablePyramid};
 
 pub mod grey;
 
 // Details to a cell: h, v and d.
 const DETAILS: usize = 3;
 
-// The cells across the deepest level.
-const GREATEST_SIDE: usize = 64;
+// The cells of the deepest level whose cells have children.
+const MOST_PARENTS: usize = 1024;
+
+// Down to this level a shorter list has room for the figures of the level above, and takes less time to make.
+const SHALLOW: usize = 4;
+
+const FEW_PARENTS: usize = 64;
 
 // Two children of a cell that lie side by side, in its upper or in its lower half.
 struct Pair {
@@ -135,72 +141,197 @@ pub fn figure_at(table: &[i64], level: usize, cx: usize, cy: usize) -> i64
     child_figure(table, above, cx, cy, f)
 }
 
-// The figures of row cy of the next level, over those of their parents at the start of the row: the last cell first, so that no figure is overwritten
-// before it is used.
-fn refine_row(table: &[i64], level: usize, cy: usize, row: &mut [i64])
-    requires { ⌜ RefinableRow (now table) level cy (now row) ⌝ }
-    ensures { λ _. ⌜ now (row .exit) ≡ rowOver (λ z. z) (now (table .entry)) (suc level) cy (now (row .entry)) ⌝ }
+// Puts a pair of figures into a picture.
+fn put_figures(pair: Pair, at: usize, picture: &mut [i64])
+    requires { ⌜ (at + 1 < length (now picture)) × (at < greatestSide * greatestSide) ⌝ }
+    ensures { λ _. ⌜ now (picture .exit) ≡ putPair (pair .left) (pair .right) at (now (picture .entry)) ⌝ }
 {
-    let mut x = cells_across(level);
+    let left = pair.left;
+    let right = pair.right;
+    picture[at] = left;
+    picture[at + 1] = right;
+}
+
+// Puts the greys of a pair of figures into a picture.
+fn put_greys(pair: Pair, depth: usize, at: usize, picture: &mut [u8])
+    requires { ⌜ (at + 1 < length (now picture)) × (at < greatestSide * greatestSide) × (depth ≤ greatestDepth) ⌝ }
+    ensures { λ _. ⌜ now (picture .exit) ≡ putPair (greyOf (2 ^ depth) (pair .left)) (greyOf (2 ^ depth) (pair .right)) at (now (picture .entry)) ⌝ }
+{
+    let left = grey::grey_of(pair.left, depth);
+    let right = grey::grey_of(pair.right, depth);
+    picture[at] = left;
+    picture[at + 1] = right;
+}
+
+// The figures of the two rows below row y of a level, over the start of the same picture: the last cell first, so that no figure is overwritten
+// before it is used.
+fn refine_rows(table: &[i64], level: usize, y: usize, picture: &mut [i64])
+    requires { ⌜ DrawableBelow (now table) level (length (now picture)) × RowParents (now table) level y (now picture) ⌝ }
+    ensures { λ _. ⌜ RowsBelow (λ z. z) (pos 0) (now (table .entry)) level y (now (picture .entry)) (now (picture .exit)) 0 ⌝ }
+{
+    let n = cells_across(level);
+    let from = y * n;
+    let mut x = n;
     while 0 < x {
         x -= 1;
-        let pair = children_in_row(table, level, x, cy, row[x]);
-        let left = pair.left;
-        let right = pair.right;
-        row[2 * x] = left;
-        row[2 * x + 1] = right;
+        let f = picture[from + x];
+        let upper = children_in_row(table, level, x, 2 * y, f);
+        let lower = children_in_row(table, level, x, 2 * y + 1, f);
+        let to = 4 * from + 2 * x;
+        put_figures(upper, to, picture);
+        put_figures(lower, to + 2 * n, picture);
     }
 }
 
-// The figures of row cy of a level.
-fn figure_row(table: &[i64], level: usize, cy: usize, row: &mut [i64])
-    requires { ⌜ DrawableRow (now table) level cy (length (now row)) ⌝ }
-    ensures { λ _. ⌜ now (row .exit) ≡ rowOver (λ z. z) (now (table .entry)) level cy (now (row .entry)) ⌝ }
+// The greys of the two rows below row y of a level, from the figures of that level.
+fn grey_rows(
+    table: &[i64],
+    depth: usize,
+    level: usize,
+    y: usize,
+    figures: &[i64],
+    picture: &mut [u8],
+)
+    requires { ⌜ DrawableBelow (now table) level (length (now picture)) × RowParents (now table) level y (now figures) × (children dimensions ^ level ≤ length (now figures)) × (depth ≤ greatestDepth) ⌝ }
+    ensures { λ _. ⌜ RowsBelow (greyOf (2 ^ depth)) 0 (now (table .entry)) level y (now (picture .entry)) (now (picture .exit)) 0 ⌝ }
 {
-    row[0] = table[0];
-    for j in 0..level {
-        refine_row(table, j, cy >> (level - j - 1), row);
+    let n = cells_across(level);
+    let from = y * n;
+    let mut x = n;
+    while 0 < x {
+        x -= 1;
+        let f = figures[from + x];
+        let upper = children_in_row(table, level, x, 2 * y, f);
+        let lower = children_in_row(table, level, x, 2 * y + 1, f);
+        let to = 4 * from + 2 * x;
+        put_greys(upper, depth, to, picture);
+        put_greys(lower, depth, to + 2 * n, picture);
     }
 }
 
-// The figures of a level, row by row.
+// The figures of the next level, over those of this one at the start of the picture: the last row first.
+fn refine(table: &[i64], level: usize, picture: &mut [i64])
+    requires { ⌜ DrawableBelow (now table) level (length (now picture)) × HasFigures (now table) level (now picture) ⌝ }
+    ensures { λ _. ⌜ HasFigures (now (table .entry)) (suc level) (now (picture .exit)) × (length (now (picture .exit)) ≡ length (now (picture .entry))) ⌝ }
+{
+    let mut y = cells_across(level);
+    while 0 < y {
+        y -= 1;
+        refine_rows(table, level, y, picture);
+    }
+}
+
+// The greys of the next level, from the figures of this one.
+fn greys_below(table: &[i64], depth: usize, level: usize, figures: &[i64], picture: &mut [u8])
+    requires { ⌜ DrawablePicture (now table) (suc level) (length (now picture)) × HasFigures (now table) level (now figures) × (children dimensions ^ level ≤ length (now figures)) × (depth ≤ greatestDepth) ⌝ }
+    ensures { λ _. ⌜ now (picture .exit) ≡ pictureIn (greyOf (2 ^ depth)) (now (table .entry)) (suc level) ⌝ }
+{
+    let mut y = cells_across(level);
+    while 0 < y {
+        y -= 1;
+        grey_rows(table, depth, level, y, figures, picture);
+    }
+}
+
+// The figures of a level at the start of a list, from the root down.
+fn figures_to(table: &[i64], level: usize, picture: &mut [i64])
+    requires { ⌜ Drawable (now table) level × (children dimensions ^ level ≤ length (now picture)) ⌝ }
+    ensures { λ _. ⌜ HasFigures (now (table .entry)) level (now (picture .exit)) × (length (now (picture .exit)) ≡ length (now (picture .entry))) ⌝ }
+{
+    picture[0] = table[0];
+    for j in 0..level {
+        refine(table, j, picture);
+    }
+}
+
+// The figures of a level.
 pub fn figures(table: &[i64], level: usize, picture: &mut [i64])
     requires { ⌜ DrawablePicture (now table) level (length (now picture)) ⌝ }
     ensures { λ _. ⌜ now (picture .exit) ≡ pictureIn (λ z. z) (now (table .entry)) level ⌝ }
 {
-    let n = cells_across(level);
-    for y in 0..n {
-        figure_row(table, level, y, &mut picture[y * n..]);
-    }
+    figures_to(table, level, picture);
 }
 
-// The greys of the first n figures of a row.
-fn shade(figures: &[i64], n: usize, depth: usize, greys: &mut [u8])
-    requires { ⌜ (n ≤ length (now figures)) × (n ≤ length (now greys)) × (n ≤ greatestSide) × (depth ≤ greatestDepth) ⌝ }
-    ensures { λ _. ⌜ now (greys .exit) ≡ overwrite n (λ x. greyOf (2 ^ depth) (getD (now (figures .entry)) x (pos 0))) (now (greys .entry)) ⌝ }
+// The grey of the root, in a picture's first place.
+fn grey_root(table: &[i64], depth: usize, picture: &mut [u8])
+    requires { ⌜ Drawable (now table) 0 × (0 < length (now picture)) × (depth ≤ greatestDepth) ⌝ }
+    ensures { λ _. ⌜ now (picture .exit) ≡ set (now (picture .entry)) 0 (greyOf (2 ^ depth) (figureIn (now (table .entry)) 0 0 0)) ⌝ }
 {
-    for x in 0..n {
-        greys[x] = grey::grey_of(figures[x], depth);
-    }
+    picture[0] = grey::grey_of(table[0], depth);
 }
 
-// The greys of row cy of a level, on a tile of side 2^depth. The figures stand in a row of their own.
-fn grey_row(table: &[i64], depth: usize, level: usize, cy: usize, greys: &mut [u8])
-    requires { ⌜ DrawableRow (now table) level cy (length (now greys)) × (depth ≤ greatestDepth) ⌝ }
-    ensures { λ _. ⌜ now (greys .exit) ≡ rowOver (greyOf (2 ^ depth)) (now (table .entry)) level cy (now (greys .entry)) ⌝ }
+// The greys of the next level, from the root down. The figures of this one stand in a list of their own.
+fn greys_by(table: &[i64], depth: usize, above: usize, figures: &mut [i64], picture: &mut [u8])
+    requires { ⌜ DrawablePicture (now table) (suc above) (length (now picture)) × (children dimensions ^ above ≤ length (now figures)) × (depth ≤ greatestDepth) ⌝ }
+    ensures { λ _. ⌜ now (picture .exit) ≡ pictureIn (greyOf (2 ^ depth)) (now (table .entry)) (suc above) ⌝ }
 {
-    let mut row = [0i64; GREATEST_SIDE];
-    figure_row(table, level, cy, &mut row);
-    shade(&row, cells_across(level), depth, greys);
+    figures_to(table, above, figures);
+    greys_below(table, depth, above, figures, picture);
 }
 
-// The greys of a level, row by row, on a tile of side 2^depth.
+// The greys of a level, on a tile of side 2^depth.
 pub fn greys(table: &[i64], depth: usize, level: usize, picture: &mut [u8])
     requires { ⌜ DrawablePicture (now table) level (length (now picture)) × (depth ≤ greatestDepth) ⌝ }
     ensures { λ _. ⌜ now (picture .exit) ≡ pictureIn (greyOf (2 ^ depth)) (now (table .entry)) level ⌝ }
 {
-    let n = cells_across(level);
-    for y in 0..n {
-        grey_row(table, depth, level, y, &mut picture[y * n..]);
+    if level == 0 {
+        grey_root(table, depth, picture);
+        return;
     }
+    let above = level - 1;
+    if level <= SHALLOW {
+        let mut few = [0i64; FEW_PARENTS];
+        greys_by(table, depth, above, &mut few, picture);
+        return;
+    }
+    let mut figures = [0i64; MOST_PARENTS];
+    greys_by(table, depth, above, &mut figures, picture);
+}
+
+// The figures of the next level over those of this one, where its cells have children.
+fn refine_parents(table: &[i64], depth: usize, level: usize, figures: &mut [i64])
+    requires { ⌜ Drawable (now table) depth × (level < depth) × Parents (now table) depth level (length (now figures)) (now figures) ⌝ }
+    ensures { λ _. ⌜ Parents (now (table .entry)) depth (suc level) (length (now (figures .entry))) (now (figures .exit)) ⌝ }
+{
+    if level + 1 < depth {
+        refine(table, level, figures);
+    }
+}
+
+// How many cells the levels from 0 to a depth have.
+pub fn places_to(depth: usize) -> usize
+    requires { ⌜ depth ≤ greatestDepth ⌝ }
+    ensures { λ r. ⌜ r ≡ places (suc depth) ⌝ }
+{
+    let n = cells_across(depth);
+    (4 * (n * n) - 1) / 3
+}
+
+// The greys of every level, each from the figures of the one above, which stand in a list of their own.
+fn pyramid_by(table: &[i64], depth: usize, figures: &mut [i64], pictures: &mut [u8])
+    requires { ⌜ DrawablePyramid (now table) depth (length (now pictures)) × (children dimensions ^ (depth - 1) ≤ length (now figures)) ⌝ }
+    ensures { λ _. ⌜ now (pictures .exit) ≡ pyramidIn (greyOf (2 ^ depth)) (now (table .entry)) (suc depth) ⌝ }
+{
+    grey_root(table, depth, pictures);
+    figures_to(table, 0, figures);
+    for level in 0..depth {
+        let start = places_to(level);
+        let end = places_to(level + 1);
+        greys_below(table, depth, level, figures, &mut pictures[start..end]);
+        refine_parents(table, depth, level, figures);
+    }
+}
+
+// The greys of every level of a tile of side 2^depth, one picture after the other, level 0 first.
+pub fn pyramid(table: &[i64], depth: usize, pictures: &mut [u8])
+    requires { ⌜ DrawablePyramid (now table) depth (length (now pictures)) ⌝ }
+    ensures { λ _. ⌜ now (pictures .exit) ≡ pyramidIn (greyOf (2 ^ depth)) (now (table .entry)) (suc depth) ⌝ }
+{
+    if depth <= SHALLOW {
+        let mut few = [0i64; FEW_PARENTS];
+        pyramid_by(table, depth, &mut few, pictures);
+        return;
+    }
+    let mut figures = [0i64; MOST_PARENTS];
+    pyramid_by(table, depth, &mut figures, pictures);
 }

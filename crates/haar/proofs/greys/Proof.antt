@@ -1,91 +1,89 @@
--- Row by row, each into what is left of the picture.
-use mathlib.Core.Path.{refl}
-use Prim.Native.Nat.{_-_, _^_}
+-- The root's grey alone, or the figures of the level above and then the greys.
+use mathlib.Core.Path.{_≡_, refl, sym, _∙_, ap, subst⁻¹}
+use mathlib.Core.List.{List}
+use Prim.Native.Nat.{ℕ, suc, _-_, _^_, _≤_}
 use native.Mathlib.Omega.{arith}
-use lib.ListN.{length}
+use native.Mathlib.Nat.{pow-zero, pow-le-pow-right}
+use lib.ListN.{length, set, length-set}
+use lib.Seq.{take-all}
+use lib.IntN.{ℤ}
+use borrow.Author.Needs.{needs}
+use Rattle.integers.specs.Units.{greatestDepth}
 use Rattle.haar.specs.Greys.{greyOf}
-use Rattle.haar.proofs.PictureRows.{PictureRows, RowBounds, row-bounds, row-room, rows-start, rows-step, rows-end}
+use Rattle.haar.specs.Cells.{children}
+use Rattle.haar.specs.Plane.{dimensions, figureIn, pictureIn}
+use Rattle.haar.specs.Drawable.{DrawablePicture}
+use Rattle.haar.proofs.Above.{shallower}
+use Rattle.haar.proofs.Stacking.{root-picture}
 use Rattle.haar.proofs.greys.Statement.{statement}
 use Rattle.haar.proofs.greys.Tie as tie
 
-abbrev Inv-loop : tie.InvT-loop
-Inv-loop table depth level picture₀ n y₀ picture y = PictureRows (greyOf (2 ^ depth)) 0 table level (length picture₀) n picture y
+-- a picture of level 0 has one place
+picture-room : {entries : List ℤ} {level room : ℕ} → DrawablePicture entries level room → level ≡ 0 → room ≡ 1
+picture-room d e = d .exact ∙ ap (λ k. children dimensions ^ k) e ∙ pow-zero (children dimensions)
 
-abbrev μ-loop : tie.MeasureT-loop
-μ-loop table depth level picture₀ n y₀ picture y = n - y
+grey-root-requires : tie.Need-grey-root-requires
+grey-root-requires c κs =
+    let s = c .before .before .before in
+    (shallower (s .pre .0 .drawable) (omega arith), omega (arith, picture-room (s .pre .0) (c .before .if1 .taken)), s .pre .1)
 
-cells-across-requires : tie.Need-cells-across-requires Inv-loop μ-loop
-cells-across-requires c κs = c .before .pre .0 .drawable .shallow
+returns : tie.Need-returns
+returns c =
+    let s = c .before .before .before .before .before .before in
+    let e = c .before .before .before .before .if1 .taken in
+    let p = s .args .picture .now in
+    let v = greyOf (2 ^ s .args .depth) (figureIn (s .args .table .now) 0 0 0) in
+    let one = picture-room (s .pre .0) e in
+    c .before .before .grey-root .ensures ∙ sym (take-all 1 (set p 0 v) (omega (arith, length-set p 0 v)))
+    ∙ root-picture 0 (greyOf (2 ^ s .args .depth)) (s .args .table .now) p (omega arith) refl
+    ∙ ap (pictureIn (greyOf (2 ^ s .args .depth)) (s .args .table .now)) (sym e)
 
-loop-holds : tie.Need-loop-holds Inv-loop μ-loop
-loop-holds c = rows-start (c .before .before .pre .0) (c .cells-across .ensures) refl
+-- the cells of the level above
+above-few : (level most : ℕ) → level - 1 ≤ most → children dimensions ^ (level - 1) ≤ children dimensions ^ most
+above-few level most h = pow-le-pow-right {n = children dimensions} (omega arith) h
 
--- the next row, in the loop
-module _ (i : tie.In-loop Inv-loop μ-loop) where
-  abbrev across : tie.After-cells-across Inv-loop μ-loop
-  across = i .before .before
+level-is : (c : tie.Else1) → suc (c .before .before .args .level - 1) ≡ c .before .before .args .level
+level-is c = omega (arith, c .if1 .left)
 
-  abbrev start : tie.Start Inv-loop μ-loop
-  start = across .before .before
-
-  bounds : RowBounds (across .cells-across .result) (length (start .args .picture .now)) (i .before .loop .y)
-  bounds = row-bounds (start .pre .0) (across .cells-across .ensures) (i .loop-test .taken)
-
-mul-grey-row : tie.Need-mul-grey-row Inv-loop μ-loop
-mul-grey-row c = let p = bounds c in record { fits = omega arith }
-
-sub-grey-row : tie.Need-sub-grey-row Inv-loop μ-loop
-sub-grey-row c = let p = bounds c in omega (arith, c .before .loop .inv .same-length)
-
-part-grey-row-start : tie.Need-part-grey-row-start Inv-loop μ-loop
-part-grey-row-start c = sub-grey-row c
-
-part-grey-row-end : tie.Need-part-grey-row-end Inv-loop μ-loop
-part-grey-row-end c = omega arith
-
-grey-row-requires : tie.Need-grey-row-requires Inv-loop μ-loop
-grey-row-requires c κs =
-    let i = c .before in (
-      record {
-        drawable = start i .pre .0 .drawable;
-        y-below = omega (arith, i .loop-test .taken, across i .cells-across .ensures);
-        enough = row-room (start i .pre .0) (across i .cells-across .ensures) (i .before .loop .picture) (i .before .loop .inv .same-length) (i .loop-test .taken);
-      },
-      start i .pre .1,
+greys-by-requires : tie.Need-greys-by-requires
+greys-by-requires c κs =
+    let s = c .before .before .before .before .before in (
+      subst⁻¹ (λ k. DrawablePicture (s .args .table .now) k (length (s .args .picture .now))) (level-is (c .before .before .before)) (s .pre .0),
+      above-few (s .args .level) 3 (omega (arith, c .before .before .if2 .taken)),
+      s .pre .1,
     )
 
-add-y : tie.Need-add-y Inv-loop μ-loop
-add-y c = let i = c .before .before .before .before in let p = bounds i in record { fits = omega (arith, i .loop-test .taken) }
+returns-2 : tie.Need-returns-2
+returns-2 c =
+    let s = c .before .before .before .before .before .before .before .before .before in
+    c .before .before .before .greys-by .ensures ∙ ap (pictureIn (greyOf (2 ^ s .args .depth)) (s .args .table .now)) (level-is (c .before .before .before .before .before .before .before))
 
-loop-less : tie.Need-loop-less Inv-loop μ-loop
-loop-less c = omega (arith, c .before .before .before .before .loop-test .taken)
+greys-by-requires-2 : tie.Need-greys-by-requires-2
+greys-by-requires-2 c κs =
+    let s = c .before .before .before .before .before in (
+      subst⁻¹ (λ k. DrawablePicture (s .args .table .now) k (length (s .args .picture .now))) (level-is (c .before .before .before)) (s .pre .0),
+      above-few (s .args .level) (greatestDepth - 1) (omega (arith, s .pre .0 .drawable .shallow)),
+      s .pre .1,
+    )
 
-loop-again : tie.Need-loop-again Inv-loop μ-loop
-loop-again c =
-    let i = c .before .before .before .before in
-    rows-step (start i .pre .0) (across i .cells-across .ensures) (i .before .loop .inv) (i .loop-test .taken) (c .before .before .grey-row .ensures)
-
-same-length : tie.Need-same-length Inv-loop μ-loop
-same-length c = c .before .loop .inv .same-length
-
-returns : tie.Need-returns Inv-loop μ-loop
-returns c = rows-end (c .before .before .before .before .pre .0) (c .before .before .cells-across .ensures) (c .before .loop .inv) (c .loop-test .left)
+returns-3 : tie.Need-returns-3
+returns-3 c =
+    let s = c .before .before .before .before .before .before .before .before .before in
+    c .before .before .before .greys-by2 .ensures ∙ ap (pictureIn (greyOf (2 ^ s .args .depth)) (s .args .table .now)) (level-is (c .before .before .before .before .before .before .before))
 
 pub greys-spec : {M : Type 1} → statement M
 greys-spec =
     tie.close
     (tie.spec
-    Inv-loop
-    μ-loop
-    cells-across-requires
-    loop-holds
-    mul-grey-row
-    sub-grey-row
-    part-grey-row-start
-    part-grey-row-end
-    grey-row-requires
-    add-y
-    loop-less
-    loop-again
-    same-length
-    returns)
+    grey-root-requires
+    (λ c. search needs)
+    returns
+    (λ c. search needs)
+    (λ c. search needs)
+    greys-by-requires
+    (λ c. search needs)
+    returns-2
+    (λ c. search needs)
+    greys-by-requires-2
+    (λ c. search needs)
+    returns-3)

@@ -1,62 +1,57 @@
 -- `haar::grey::grey_of` meets its contract. The full figure is a power of two, at most 2^29, so the shift to the left loses nothing and the sum fits.
-use mathlib.Core.Path.{_≡_, sym, _∙_, ap}
-use Prim.Native.Nat.{_*_, _^_, _≤_}
+use mathlib.Core.Path.{_≡_, sym, _∙_, subst₂}
+use Prim.Native.Nat.{ℕ, _*_, _%_, _^_, _≤_}
 use native.Mathlib.Omega.{arith}
 use lib.Pow.{pow-pos}
-use lib.IntN.{natAbs}
 use mir.Facts.{toZ-ofZ}
 use borrow.Author.Needs.{needs}
-use Rattle.haar.specs.Greys.{full}
-use Rattle.haar.specs.Laws.Greys.{grey-byte, grey-magnitude, grey-full}
-use Rattle.haar.proofs.grey.Numbers.{full-shift, full-most, grey-quotient}
+use Rattle.integers.specs.Units.{greatestDepth}
+use Rattle.haar.specs.Greys.{SameGrey}
+use Rattle.haar.specs.Laws.Greys.{grey-byte}
+use Rattle.haar.proofs.grey.Numbers.{bits, full-shift, full-most, grey-quotient}
 use Rattle.haar.proofs.grey.grey_of.Statement.{statement}
 use Rattle.haar.proofs.grey.grey_of.Tie as tie
 
--- what is compared and divided is the figure's magnitude
-magnitude-is : (c : tie.After-magnitude) → c .magnitude .result ≡ natAbs (c .before .args .figure)
-magnitude-is c = c .magnitude .ensures ∙ ap natAbs (toZ-ofZ (c .before .fits .figure))
+-- the full figure, as the code has it, and what is held below it
+module _ (c : tie.After-held) where
+  abbrev depth : ℕ
+  depth = c .before .args .depth
 
--- ---- the full figure or more
-returns : tie.Need-returns
-returns c =
-    let m = c .before in
-    let depth = m .before .args .depth in
-    let e = full-shift depth in
-    let b = full-most (m .before .pre) in
-    let h : full (2 ^ depth) * 1 ≤ natAbs (m .before .args .figure) = omega (arith, magnitude-is m) in
-    sym (grey-full (m .before .args .figure) (pow-pos depth) (omega arith) h)
+  small : 2 ^ bits depth ≤ 2 ^ bits greatestDepth
+  small = full-most (c .before .pre)
 
--- ---- short of it
+  inked : SameGrey (c .before .args .figure) (2 ^ bits depth) (c .held .result)
+  inked =
+      subst₂ (λ z n. SameGrey z n (c .held .result)) (toZ-ofZ (c .before .fits .figure)) (let e : 1 * 2 ^ bits depth % 2 ^ 64 ≡ 2 ^ bits depth = omega (arith, small) in e)
+      (c .held .ensures)
+
 mul-result : tie.Need-mul-result
-mul-result c = record { fits = omega (arith, full-most (c .before .before .pre)) }
+mul-result c = record { fits = omega (arith, small c, inked c .few) }
 
 add-result : tie.Need-add-result
-add-result c = record { fits = omega (arith, full-most (c .before .before .pre)) }
+add-result c = record { fits = omega (arith, small c, inked c .few) }
 
-returns-2 : tie.Need-returns-2
-returns-2 c =
-    let m = c .before in
-    let depth = m .before .args .depth in
-    let e = full-shift depth in
-    let b = full-most (m .before .pre) in
-    grey-quotient _ _ e (pow-pos depth) (omega arith) (omega arith) ∙ sym (grey-magnitude (2 ^ depth) (m .before .args .figure) (m .magnitude .result) (magnitude-is m))
+returns : tie.Need-returns
+returns c =
+    let b = small c in
+    let e = full-shift (depth c) in
+    grey-quotient _ _ e (pow-pos (depth c)) (inked c .few) (omega arith) ∙ inked c .same _ (pow-pos (depth c)) (sym e)
 
 -- what is cast is that grey, so a byte
 cast-result-2 : tie.Need-cast-result-2
-cast-result-2 c = record { fits = omega (arith, returns-2 c, grey-byte (2 ^ c .before .before .args .depth) (c .before .before .args .figure) 1) }
+cast-result-2 c = record { fits = omega (arith, returns c, grey-byte (2 ^ depth c) (c .before .args .figure) 1) }
 
 pub grey-of-spec : {M : Type 1} → statement M
 grey-of-spec =
     tie.close
     (tie.spec
+    (λ c. search needs)
+    (λ c. search needs)
+    (λ c. search needs)
     (λ c κs. search needs)
-    (λ c. search needs)
-    (λ c. search needs)
-    (λ c. search needs)
-    returns
     (λ c. search needs)
     mul-result
     add-result
     (λ c. search needs)
     cast-result-2
-    returns-2)
+    returns)

@@ -1,0 +1,123 @@
+-- From the last cell of the row to the first.
+use mathlib.Core.Path.{_≡_, _∙_, ap, ap₂, subst, subst⁻¹}
+use Prim.Native.Nat.{ℕ, _+_, _*_, _-_, _/_, _^_, _<_, _≤_}
+use native.Mathlib.Omega.{arith}
+use lib.ListN.{length, getD}
+use lib.IntN.{ℤ, pos}
+use Rattle.integers.specs.Bits.{back, back-is}
+use Rattle.haar.specs.Greys.{greyOf}
+use Rattle.haar.specs.Plane.{figureIn}
+use Rattle.haar.specs.Pairs.{Refinable}
+use Rattle.haar.specs.Levels.{RowsBelow}
+use Rattle.haar.specs.Laws.Cells.{level-square}
+use Rattle.haar.proofs.CellDetails.{parent-within}
+use Rattle.haar.proofs.TwoRows.{stored-length, NextCell, RowPlaces, row-places, row-refinable, rows-start, rows-step, rows-end}
+use Rattle.haar.proofs.grey_rows.Statement.{statement}
+use Rattle.haar.proofs.grey_rows.Tie as tie
+
+abbrev Inv-loop : tie.InvT-loop
+Inv-loop table depth level y figures picture₀ n from x₀ picture x = RowsBelow (greyOf (2 ^ depth)) 0 table level y picture₀ picture x × (x ≤ n)
+
+abbrev μ-loop : tie.MeasureT-loop
+μ-loop table depth level y figures picture₀ n from x₀ picture x = x
+
+cells-across-requires : tie.Need-cells-across-requires Inv-loop μ-loop
+cells-across-requires c κs = omega (arith, c .before .pre .0 .drawable .shallow)
+
+-- the cells across, in the code
+places : (c : tie.After-cells-across Inv-loop μ-loop) → RowPlaces (c .cells-across .result) (c .before .before .args .y) (length (c .before .before .args .picture .now))
+places c = row-places (c .before .before .pre .0) (c .cells-across .ensures) (c .before .before .pre .1 .y-below)
+
+loop-holds : tie.Need-loop-holds Inv-loop μ-loop
+loop-holds c = (rows-start (c .cells-across .ensures), omega arith)
+
+-- the next cell, in the loop
+module _ (i : tie.In-loop Inv-loop μ-loop) where
+  abbrev across : tie.After-cells-across Inv-loop μ-loop
+  across = i .before .before
+
+  abbrev start : tie.Start Inv-loop μ-loop
+  start = across .before .before
+
+  at : NextCell (across .cells-across .result) (start .args .y) (i .before .loop .x) (length (i .before .loop .picture))
+  at = record {
+    places = subst⁻¹ (RowPlaces (across .cells-across .result) (start .args .y)) (i .before .loop .inv .0 .same-length) (places across);
+    left = i .loop-test .taken;
+    within = i .before .loop .inv .1;
+  }
+
+  -- the same numbers by the level
+  row-is : start .args .y * across .cells-across .result ≡ start .args .y * 2 ^ start .args .level
+  row-is = ap (λ n. start .args .y * n) (across .cells-across .ensures)
+
+  figures-enough : across .cells-across .result * across .cells-across .result ≤ length (start .args .figures .now)
+  figures-enough =
+      let n = across .cells-across .ensures in
+      omega (arith, start .pre .2, ap₂ _*_ n n ∙ level-square (start .args .level))
+
+  parent-is : getD (start .args .figures .now) (start .args .y * across .cells-across .result + (i .before .loop .x - 1)) (pos 0)
+      ≡ figureIn (start .args .table .now) (start .args .level) (i .before .loop .x - 1) (start .args .y)
+  parent-is =
+      let p = at in
+      ap (λ k. getD (start .args .figures .now) (k + (i .before .loop .x - 1)) (pos 0)) row-is
+      ∙ start .pre .1 .entry (i .before .loop .x - 1) (omega (arith, across .cells-across .ensures))
+
+  asks : (cy : ℕ) → cy / 2 ≡ start .args .y
+      → Refinable (start .args .table .now) (start .args .level) (i .before .loop .x - 1) cy
+      (back (getD (start .args .figures .now) (start .args .y * across .cells-across .result + (i .before .loop .x - 1)) (pos 0)))
+  asks cy h =
+      let p = at in
+      let r = row-refinable {cy = cy} (start .pre .0) (start .pre .1 .y-below) (omega (arith, across .cells-across .ensures)) h parent-is in
+      subst⁻¹ (Refinable (start .args .table .now) (start .args .level) (i .before .loop .x - 1) cy) (back-is tt (parent-within r)) r
+
+put-greys-requires-2 : tie.Need-put-greys-requires-2 Inv-loop μ-loop
+put-greys-requires-2 c κs =
+    let i = c .before .before .before .before .before .before .before .before in
+    let pair = c .before .before .before .before .before .before .children-in-row .result in
+    let p = at i in
+    let k = 4 * (start i .args .y * across i .cells-across .result) + 2 * (i .before .loop .x - 1) in
+    let same = stored-length (greyOf (2 ^ start i .args .depth) (pair .left)) (greyOf (2 ^ start i .args .depth) (pair .right)) k (i .before .loop .picture) (c .before .before .before .put-greys .ensures) in
+    (omega arith, omega arith, start i .pre .3)
+
+loop-again : tie.Need-loop-again Inv-loop μ-loop
+loop-again c =
+    let i = c .before .before .before .before .before .before .before .before .before .before .before in
+    let u = c .before .before .before .before .before .before .before .before .before .children-in-row .ensures in
+    let w = c .before .before .before .before .before .before .before .before .children-in-row2 .ensures in
+    let p = at i in
+    let e = across i .cells-across .ensures in (
+      rows-step (subst (λ n. RowPlaces n (start i .args .y) (length (start i .args .picture .now))) e (places (across i)))
+          (i .loop-test .taken) (omega (arith, e)) (i .before .loop .inv .0) (omega (arith, row-is i)) (omega (arith, e))
+          (c .before .before .before .before .before .before .put-greys .ensures) (c .before .before .put-greys2 .ensures) (ap (greyOf (2 ^ start i .args .depth)) (u .left-is)) (ap (greyOf (2 ^ start i .args .depth)) (u .right-is)) (ap (greyOf (2 ^ start i .args .depth)) (w .left-is)) (ap (greyOf (2 ^ start i .args .depth)) (w .right-is)),
+      omega arith,
+    )
+
+pub grey-rows-spec : {M : Type 1} → statement M
+grey-rows-spec =
+    tie.close
+    (tie.spec
+    Inv-loop
+    μ-loop
+    cells-across-requires
+    (λ c. let p = places c in record { fits = omega arith })
+    loop-holds
+    (λ c. omega (arith, c .loop-test .taken))
+    (λ c. let p = at c in record { fits = omega arith })
+    (λ c. let p = at c in record { fits = omega arith })
+    (λ c. let p = at c in omega (arith, figures-enough c))
+    (λ c. let p = at (c .before) in record { fits = omega arith })
+    (λ c κs. asks (c .before) _ (omega arith))
+    (λ c. let p = at (c .before .before) in record { fits = omega arith })
+    (λ c. let p = at (c .before .before) in record { fits = omega arith })
+    (λ c κs. asks (c .before .before) _ (omega arith))
+    (λ c. let p = at (c .before .before .before) in record { fits = omega arith })
+    (λ c. let p = at (c .before .before .before) in record { fits = omega arith })
+    (λ c. let p = at (c .before .before .before) in record { fits = omega arith })
+    (λ c κs. let p = at (c .before .before .before .before) in (omega arith, omega arith, start (c .before .before .before .before) .pre .3))
+    (λ c. let p = at (c .before .before .before .before .before .before .before) in record { fits = omega arith })
+    (λ c. let p = at (c .before .before .before .before .before .before .before) in record { fits = omega arith })
+    put-greys-requires-2
+    (λ c. let p = at (c .before .before .before .before .before .before .before .before .before .before .before) in omega arith)
+    loop-again
+    (λ c. c .before .loop .inv .0 .same-length)
+    (λ c. rows-end (omega (arith, c .loop-test .left)) (c .before .loop .inv .0)))
