@@ -17,6 +17,8 @@ pub mod Refusals
 -- ---- demand 2: each entry of the table that building left; each figure and grey of a table
 pub mod TableEntries
 pub mod DrawnFigures
+-- all levels in one call
+pub mod AllLevels
 -- ---- demand 3: the claim from the outline to what is drawn of it, and that it holds
 pub mod Faithful
 pub mod Theorem

@@ -13,21 +13,24 @@
 --   figuresPicture, greysPicture             the picture afterwards
 --   pictureIndex                             where a cell stands in a picture
 --   cellRefusal, cellResult                  one cell: the number; the number and the figure
+--   pyramidRefusal, pyramidPictures          all levels of greys: the number; the buffer afterwards
+--   levelPart level pictures                 a level's part of the buffer
 use mathlib.Core.List.{List}
 use Prim.Native.Nat.{ℕ, zero, suc, _+_, _*_, _^_}
-use lib.ListN.{length}
+use lib.ListN.{length, take, drop}
 use lib.IntN.{ℤ, pos}
 use Rattle.edge.specs.declared.Edge.{Edge}
 use Rattle.haar.specs.Entries.{entries}
 use Rattle.haar.specs.Greys.{greyOf}
 use Rattle.haar.specs.Plane.{dimensions, figureIn, pictureIn}
+use Rattle.haar.specs.Pyramid.{places, pyramidIn}
 use Rattle.placement.specs.declared.Placement.{Placement}
 use Rattle.placement.specs.Placed.{placed}
 use Rattle.accuracy.specs.Outline.{contoursOf, edgeCount, outlineEdges}
 use Rattle.accuracy.specs.OutlineTable.{outlineTable, tableFrom}
 use Rattle.tile.specs.declared.Built.{Built}
 use Rattle.tile.specs.declared.CellFigure.{CellFigure}
-use Rattle.tile.specs.Questions.{depthOf, firstNo, buildingQuestions, placedQuestions, drawingQuestions, cellQuestions}
+use Rattle.tile.specs.Questions.{depthOf, firstNo, buildingQuestions, placedQuestions, drawingQuestions, cellQuestions, pyramidQuestions}
 
 abbrev pub ifDone : {A : Type 0} → ℕ → A → A → A
 ifDone zero a b = a
@@ -99,3 +102,14 @@ cellResult side level cx cy table = record {
   number = cellRefusal side level cx cy table;
   figure = ifDone (cellRefusal side level cx cy table) (figureIn table level cx cy) (pos 0);
 }
+
+-- ---- all levels of greys in one buffer, level 0 first
+abbrev pub pyramidRefusal : ℕ → List ℤ → ℕ → ℕ
+pyramidRefusal side table size = firstNo (pyramidQuestions side table size)
+
+abbrev pub pyramidPictures : ℕ → List ℤ → List ℕ → List ℕ
+pyramidPictures side table pictures = ifDone (pyramidRefusal side table (length pictures)) (pyramidIn (greyOf side) table (suc (depthOf side))) pictures
+
+-- the 4^level places behind those of the levels before it
+abbrev pub levelPart : ℕ → List ℕ → List ℕ
+levelPart level pictures = take (4 ^ level) (drop (places level) pictures)

@@ -12,10 +12,11 @@
 --   cellQuestions                          what building, pictures and greys, and one cell ask
 --   placedQuestions                        what building with a placement asks
 --   tableQuestions, outlineQuestions        its two parts: about the tile, and about the outline, beside edges that are in already
+--   question8All, pyramidQuestions         question 8 of all levels in one buffer, and what drawing them asks
 use mathlib.Core.Path.{_≡_}
 use mathlib.Core.Bool.{Bool, true, false, _&&_, cond}
 use mathlib.Core.List.{List, [], _∷_}
-use Prim.Native.Nat.{ℕ, _+_, _*_, _^_}
+use Prim.Native.Nat.{ℕ, suc, _+_, _*_, _^_}
 use lib.Count.{trailingZeros}
 use lib.Dec.{eqb, leb, ltb}
 use lib.ListN.{length}
@@ -23,6 +24,7 @@ use lib.IntN.{ℤ, pos, negℤ}
 use lib.Signed.{leZ}
 use Rattle.integers.specs.Units.{stepsPerPixel, fewestPoints, mostPoints, mostEdges, entryLimit}
 use Rattle.integers.specs.Tests.{every, oneOf}
+use Rattle.haar.specs.Pyramid.{places}
 use Rattle.placement.specs.declared.Placement.{Placement}
 use Rattle.placement.specs.Placed.{placeable, placed}
 use Rattle.accuracy.specs.Outline.{edgeCount}
@@ -129,3 +131,10 @@ tableQuestions side table = question1 side ∷ question2 side table ∷ []
 abbrev pub outlineQuestions : ℕ → List ℤ → List ℕ → Placement → ℕ → List Question
 outlineQuestions reach points counts placement already =
     question4 counts ∷ question5Beside already counts ∷ question3 points counts ∷ question12 placement points ∷ question6 reach (placed placement points) ∷ []
+
+-- ---- all levels in one buffer: it has exactly 1 + 4 + .. + 4^depth places. There is no level to ask about.
+abbrev pub question8All : ℕ → ℕ → Question
+question8All side size = record { number = 8; answer = eqb size (places (suc (depthOf side))) }
+
+abbrev pub pyramidQuestions : ℕ → List ℤ → ℕ → List Question
+pyramidQuestions side table size = question1 side ∷ question2 side table ∷ question8All side size ∷ question9 table ∷ []

@@ -6,13 +6,14 @@
 --   PlacedRefusals, placed-refusals         the same of building with a placement
 --   DrawingRefusals, drawing-refusals       the same of pictures and greys
 --   CellRefusals, cell-refusals             and of one cell
+--   PyramidRefusals, pyramid-refusals       and of all levels in one buffer
 --   refused-edges, refused-table,
 --   refused-placed-edges,
 --   refused-placed-table,
 --   refused-figures, refused-greys,
---   refused-figure                          what a refusal carries and leaves
+--   refused-figure, refused-pyramid         what a refusal carries and leaves
 --   question1-means .. question10-means,
---   question12-means                        what "yes" says; `no-means` of `integers`' Tests makes of each what "no" says
+--   question8All-means, question12-means    what "yes" says; `no-means` of `integers`' Tests makes of each what "no" says
 --   side-of-depth, depth-of-side            a side is 2 to the power of its depth, and each depth has its side
 use mathlib.Core.Path.{_≡_, refl}
 use mathlib.Core.List.{List, [], _∷_}
@@ -30,13 +31,14 @@ use Rattle.integers.specs.Within.{Within}
 use Rattle.integers.specs.ListSum.{All}
 use Rattle.haar.specs.Greys.{greyOf}
 use Rattle.haar.specs.Plane.{figureIn, pictureIn}
+use Rattle.haar.specs.Pyramid.{places, pyramidIn}
 use Rattle.placement.specs.declared.Placement.{Placement}
 use Rattle.placement.specs.Placed.{placed}
 use Rattle.placement.specs.Placeable.{Placeable, placeable-means}
 use Rattle.accuracy.specs.Outline.{edgeCount}
 use Rattle.tile.specs.Questions.{Yes, No, DecidedBy, depthOf, question1, question2, question3, question4, question5, question6, question7, question8, question9, question10, question12}
-use Rattle.tile.specs.Questions.{buildingQuestions, placedQuestions, drawingQuestions, cellQuestions}
-use Rattle.tile.specs.Outcomes.{tableOf, buildRefusal, buildResult, buildTable, placedRefusal, placedResult, placedTable, drawRefusal, figuresPicture, greysPicture, cellRefusal, cellResult}
+use Rattle.tile.specs.Questions.{question8All, buildingQuestions, placedQuestions, drawingQuestions, cellQuestions, pyramidQuestions}
+use Rattle.tile.specs.Outcomes.{tableOf, buildRefusal, buildResult, buildTable, placedRefusal, placedResult, placedTable, drawRefusal, figuresPicture, greysPicture, cellRefusal, cellResult, pyramidRefusal, pyramidPictures}
 use Rattle.tile.specs.Laws.IfDone.{if-refused}
 use Rattle.tile.specs.Laws.Sides.{side-power, side-depth}
 use Rattle.integers.specs.Tests.{eqb-means, leb-means, ltb-means, and-means, every-means, between-means, within-means, OneOf, one-of-means}
@@ -155,6 +157,28 @@ cell-refusals side level cx cy table =
       no-other = firstNo-among (cellQuestions side level cx cy table);
     }
 
+-- ---- all levels in one buffer: 1, 2, 8, 9
+pub record PyramidRefusals (side : ℕ) (table : List ℤ) (size : ℕ) : Type 0 where
+  pub accepted : (pyramidRefusal side table size ≡ 0) ↔ All Yes (pyramidQuestions side table size)
+  pub refused1 : (pyramidRefusal side table size ≡ 1) ↔ No (question1 side)
+  pub refused2 : (pyramidRefusal side table size ≡ 2) ↔ DecidedBy (question1 side ∷ []) (question2 side table)
+  pub refused8 : (pyramidRefusal side table size ≡ 8) ↔ DecidedBy (question1 side ∷ question2 side table ∷ []) (question8All side size)
+  pub refused9 : (pyramidRefusal side table size ≡ 9)
+      ↔ DecidedBy (question1 side ∷ question2 side table ∷ question8All side size ∷ []) (question9 table)
+  pub no-other : OneOf (pyramidRefusal side table size) (0 ∷ 1 ∷ 2 ∷ 8 ∷ 9 ∷ [])
+
+pub pyramid-refusals : (side : ℕ) (table : List ℤ) (size : ℕ) → PyramidRefusals side table size
+pyramid-refusals side table size =
+    let each = each-number (pyramidQuestions side table size) tt in
+    record {
+      refused1 = each .0;
+      refused2 = each .1 .0;
+      refused8 = each .1 .1 .0;
+      refused9 = each .1 .1 .1 .0;
+      accepted = each .1 .1 .1 .1;
+      no-other = firstNo-among (pyramidQuestions side table size);
+    }
+
 -- ---- "A refusal carries its number and the edge count or figure 0; tables and pictures keep what they held."
 nonzero : {n : ℕ} → 0 < n → n ≡ 0 → ⊥
 nonzero h e = omega arith
@@ -185,6 +209,10 @@ refused-greys side level table picture h = if-refused (pictureIn (greyOf side) t
 
 pub refused-figure : (side level cx cy : ℕ) (table : List ℤ) → 0 < cellRefusal side level cx cy table → cellResult side level cx cy table .figure ≡ pos 0
 refused-figure side level cx cy table h = if-refused (figureIn table level cx cy) (pos 0) (nonzero h)
+
+pub refused-pyramid : (side : ℕ) (table : List ℤ) (pictures : List ℕ) → 0 < pyramidRefusal side table (length pictures)
+    → pyramidPictures side table pictures ≡ pictures
+refused-pyramid side table pictures h = if-refused (pyramidIn (greyOf side) table (suc (depthOf side))) pictures (nonzero h)
 
 -- ---- the questions
 -- "Is the side 1, 2, 4, 8, 16, 32 or 64?"
@@ -236,6 +264,10 @@ question7-means side level = leb-means level (depthOf side)
 -- "Has the picture exactly 4^level places?"
 pub question8-means : (level size : ℕ) → Yes (question8 level size) ↔ (size ≡ 4 ^ level)
 question8-means level size = eqb-means size (4 ^ level)
+
+-- all levels: exactly 1 + 4 + .. + 4^depth places, a third of one less than 4^(depth + 1)
+pub question8All-means : (side size : ℕ) → Yes (question8All side size) ↔ (size ≡ places (suc (depthOf side)))
+question8All-means side size = eqb-means size (places (suc (depthOf side)))
 
 -- "Is every entry of the table from −2^40 to 2^40?"
 pub question9-means : (table : List ℤ) → Yes (question9 table) ↔ All (Within (pos entryLimit)) table

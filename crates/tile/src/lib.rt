@@ -1,4 +1,4 @@
-// A letter's outline into a table of Haar coefficients, and pictures at every halving: five calls. (Those for a tile of a sheet are in `sheet`, putting in and
+// A letter's outline into a table of Haar coefficients, and pictures at every halving: six calls. (Those for a tile of a sheet are in `sheet`, putting in and
 // taking out in `corrections`; what they share with these is public too, and asks nothing of its caller either.)
 //
 // None asks anything of its caller. Each asks its questions of what it is given, in the papers' order; the first "no" decides, and its number is the
@@ -10,9 +10,11 @@ ghost use lib.IntN.{pos};
 ghost use lib.Dec.{leb};
 ghost use mathlib.Core.Bool.{_&&_};
 ghost use Rattle.integers.specs.Units.{greatestSide, greatestDepth, fewestPoints, mostPoints};
-ghost use Rattle.tile.specs.Questions.{depthOf, firstNo, question1, question2, question4, question7, question8, question9, question10};
+ghost use Rattle.tile.specs.Questions.{depthOf, firstNo, question1, question2, question4, question7, question8, question8All, question9, question10};
 ghost use Rattle.tile.specs.Questions.{tableQuestions, outlineQuestions};
 ghost use Rattle.tile.specs.Outcomes.{buildResult, buildTable, placedResult, placedTable, drawRefusal, figuresPicture, greysPicture, cellRefusal, cellResult};
+ghost use Rattle.tile.specs.Outcomes.{pyramidRefusal, pyramidPictures};
+ghost use Rattle.tile.specs.AllLevels.{LevelByLevel};
 ghost use Rattle.tile.specs.Faithful.{Faithful, FaithfulPlaced};
 ghost use Rattle.tile.specs.Inner.{cappedEdges, levelQuestions};
 ghost use Rattle.tile.specs.EntrySearch.{entriesLookedAt};
@@ -167,6 +169,14 @@ fn is_picture(level: u32, size: usize) -> bool
     size == n * n
 }
 
+// Question 8 of all levels in one buffer, `size` being how many places it has.
+fn is_pyramid(side: u32, size: usize) -> bool
+    requires { ⌜ depthOf side ≤ greatestDepth ⌝ }
+    ensures { λ b. ⌜ b ≡ question8All side size .answer ⌝ }
+{
+    size == haar::places_to(depth_of(side))
+}
+
 // Question 9, which is asked of the whole table whatever is drawn of it. How many entries were looked at is 02's answer beside it: what the two say is
 // in specs/EntrySearch. Question 9 is asked through this one alone, and no call passes the count on.
 pub fn search_entries(table: &[i64]) -> Searched
@@ -278,7 +288,24 @@ fn cell_refusal(side: u32, level: u32, cx: u32, cy: u32, table: &[i64]) -> u32
     DONE
 }
 
-// ---- the five calls
+// The questions of all levels in one buffer.
+fn pyramid_refusal(side: u32, table: &[i64], size: usize) -> u32
+    ensures { λ r. ⌜ r ≡ pyramidRefusal side (now (table .entry)) size ⌝ }
+{
+    let number = tile_refusal(side, table);
+    if number != DONE {
+        return number;
+    }
+    if !is_pyramid(side, size) {
+        return NO_PICTURE;
+    }
+    if !search_entries(table).within {
+        return NO_RANGE;
+    }
+    DONE
+}
+
+// ---- the six calls
 
 // Sets every entry to 0.
 pub fn clear(table: &mut [i64])
@@ -365,6 +392,21 @@ pub fn greys(side: u32, level: u32, table: &[i64], picture: &mut [u8]) -> u32
     let number = draw_refusal(side, level, table, picture.len());
     if number == DONE {
         haar::greys(table, depth_of(side), level as usize, picture);
+    }
+    number
+}
+
+// Draws the greys of every level, from 0 to the depth, one picture after the other. The answer is 0, and each level's part of the buffer has what
+// `greys` leaves of that level, whatever it held before. Or it is the number of the first question that is answered no, and the buffer is as it was.
+pub fn pyramid(side: u32, table: &[i64], pictures: &mut [u8]) -> u32
+    ensures { λ r. ⌜ r ≡ pyramidRefusal side (now (table .entry)) (length (now (pictures .entry))) ⌝ }
+    ensures { λ _. ⌜ now (pictures .exit) ≡ pyramidPictures side (now (table .entry)) (now (pictures .entry)) ⌝ }
+    ensures { λ _. ⌜ LevelByLevel side (now (table .entry)) (now (pictures .entry)) (now (pictures .exit)) ⌝ }
+    ensures { λ _. ⌜ now (table .exit) ≡ now (table .entry) ⌝ }
+{
+    let number = pyramid_refusal(side, table, pictures.len());
+    if number == DONE {
+        haar::pyramid(table, depth_of(side), pictures);
     }
     number
 }

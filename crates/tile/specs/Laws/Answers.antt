@@ -3,8 +3,9 @@
 -- Main results
 --   entries-in-range, in-range-entries        question 9 is `haar`'s `InRange`
 --   level-le                                  a level of a tile is no deeper than a tile can be
---   drawable-picture, drawable-cell           what is not refused can be drawn
-use mathlib.Core.Path.{_≡_, sym, _∙_}
+--   drawable-picture, drawable-cell,
+--   drawable-pyramid                          what is not refused can be drawn
+use mathlib.Core.Path.{_≡_, refl, sym, _∙_}
 use mathlib.Core.List.{List}
 use Prim.Native.Nat.{ℕ, _^_, _≤_}
 use native.Mathlib.Nat.{le-trans, le-of-eq, pow-le-pow-right}
@@ -17,9 +18,10 @@ use Rattle.integers.specs.ListSum.{all-getD, getD-all}
 use Rattle.haar.specs.Cells.{children}
 use Rattle.haar.specs.Plane.{dimensions}
 use Rattle.haar.specs.Drawable.{InRange, Drawable, DrawablePicture, DrawableCell}
+use Rattle.haar.specs.Pyramid.{DrawablePyramid}
 use Rattle.tile.specs.Questions.{Yes, depthOf, question1, question2, question7, question9}
-use Rattle.tile.specs.Outcomes.{drawRefusal, cellRefusal}
-use Rattle.tile.specs.Refusals.{drawing-refusals, cell-refusals, question2-means, question7-means, question8-means, question9-means, question10-means}
+use Rattle.tile.specs.Outcomes.{drawRefusal, cellRefusal, pyramidRefusal}
+use Rattle.tile.specs.Refusals.{drawing-refusals, cell-refusals, pyramid-refusals, question8All-means, question2-means, question7-means, question8-means, question9-means, question10-means}
 use Rattle.tile.specs.Laws.Sides.{side-depth, side-cells}
 
 -- ---- entries
@@ -61,3 +63,11 @@ drawable-cell side level cx cy table e =
     let y = cell-refusals side level cx cy table .accepted .0 e in
     let b = question10-means level cx cy .0 (y .1 .1 .1 .0) in
     record { drawable = drawable side level (y .0) (y .1 .1 .0) table (y .1 .0) (y .1 .1 .1 .1 .0); x-below = b .0; y-below = b .1 }
+
+pub drawable-pyramid : (side : ℕ) (table : List ℤ) (size : ℕ) → pyramidRefusal side table size ≡ 0 → DrawablePyramid table (depthOf side) size
+drawable-pyramid side table size e =
+    let y = pyramid-refusals side table size .accepted .0 e in
+    record {
+      drawable = drawable side (depthOf side) (y .0) (question7-means side (depthOf side) .1 (le-of-eq refl)) table (y .1 .0) (y .1 .1 .1 .0);
+      exact = question8All-means side size .0 (y .1 .1 .0);
+    }
