@@ -9,7 +9,6 @@ pub mod Above
 -- two rows of a level, from the row of their parents
 pub mod TwoRows
 -- a level, from the one above
-
 pub mod NextLevel
 -- pictures, one after the other
 pub mod Stacking

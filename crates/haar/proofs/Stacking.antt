@@ -4,7 +4,7 @@
 --   root-picture                              the picture of level 0
 --   Stacked                                   so many levels are drawn
 --   stacked-root, stacked-step, stacked-end   level 0, one level more, all
-use mathlib.Core.Path.{_≡_, refl, sym, _∙_, ap, ap₂, subst⁻¹}
+use mathlib.Core.Path.{_≡_, sym, _∙_, ap, ap₂, subst⁻¹}
 use mathlib.Core.List.{List, _++_, append-assoc}
 use Prim.Native.Nat.{ℕ, suc, _+_, _*_, _-_, _^_, _<_, _≤_}
 use native.Mathlib.Omega.{arith}

@@ -3,10 +3,11 @@
 -- Main results
 --   stored-length                             a list into which a pair was put is as long as before
 --   RowPlaces, row-places                     where the rows stand
---   NextCell                                  which cell is next
---   row-refinable                             what the cell that is next asks for
+--   NextCell, next-cell                       which cell is next
+--   parent-kept, row-parent                   its figure is where it was, in place too
+--   row-refinable                             what its children ask for
 --   rows-start, rows-step, rows-end           none is drawn, one cell's children more, all are
-use mathlib.Core.Path.{_≡_, refl, _∙_, ap, subst, subst⁻¹}
+use mathlib.Core.Path.{_≡_, refl, _∙_, ap, subst, subst⁻¹, subst₂}
 use mathlib.Core.List.{List}
 use mathlib.Core.Logic.{_≢_}
 use Prim.Native.Nat.{ℕ, suc, _+_, _*_, _-_, _/_, _^_, _<_, _≤_}
@@ -17,25 +18,28 @@ use lib.ListN.{length, getD, set, length-set}
 use lib.Seq.{getD-set-same, getD-set-other}
 use lib.Pow.{pow-mono}
 use lib.IntN.{ℤ, pos}
-use Rattle.integers.specs.Units.{greatestSide, greatestDepth}
+use Rattle.integers.specs.Units.{greatestSide}
+use Rattle.integers.specs.Bits.{back, back-is}
 use Rattle.haar.specs.Cells.{children}
 use Rattle.haar.specs.Plane.{dimensions, figureIn}
-use Rattle.haar.specs.Pairs.{Refinable}
+use Rattle.haar.specs.Pairs.{Refinable, IsPair}
 use Rattle.haar.specs.Levels.{putPair, DrawableBelow, RowParents, RowsBelow}
 use Rattle.haar.specs.Laws.Cells.{level-square}
+use Rattle.haar.specs.declared.Pair.{Pair}
+use Rattle.haar.proofs.CellDetails.{parent-within}
 
 -- ---- a pair in a list
 module _ {A : Type 0} (o a b : A) (k : ℕ) (l : List A) where
-  pub pair-length : length (putPair a b k l) ≡ length l
+  pair-length : length (putPair a b k l) ≡ length l
   pair-length = length-set (set l k a) (k + 1) b ∙ length-set l k a
 
-  pub pair-elsewhere : (i : ℕ) → i ≢ k → i ≢ k + 1 → getD (putPair a b k l) i o ≡ getD l i o
+  pair-elsewhere : (i : ℕ) → i ≢ k → i ≢ k + 1 → getD (putPair a b k l) i o ≡ getD l i o
   pair-elsewhere i p q = getD-set-other (set l k a) (k + 1) i b o q ∙ getD-set-other l k i a o p
 
-  pub pair-first : k < length l → getD (putPair a b k l) k o ≡ a
+  pair-first : k < length l → getD (putPair a b k l) k o ≡ a
   pair-first h = getD-set-other (set l k a) (k + 1) k b o (omega arith) ∙ getD-set-same l k a o h
 
-  pub pair-second : k + 1 < length l → getD (putPair a b k l) (k + 1) o ≡ b
+  pair-second : k + 1 < length l → getD (putPair a b k l) (k + 1) o ≡ b
   pair-second h = getD-set-same (set l k a) (k + 1) b o (omega (arith, length-set l k a))
 
 pub stored-length : {A : Type 0} (a b : A) (k : ℕ) (l : List A) {m : List A} → m ≡ putPair a b k l → length m ≡ length l
@@ -64,15 +68,32 @@ pub record NextCell (n y x room : ℕ) : Type 0 where
   pub left : 0 < x
   pub within : x ≤ n
 
--- ---- what the cell that is next asks for, of its children in row cy
-pub row-refinable : {entries : List ℤ} {level room x y cy : ℕ} {f : ℤ} → DrawableBelow entries level room → y < 2 ^ level → x < 2 ^ level → cy / 2 ≡ y
-    → f ≡ figureIn entries level x y → Refinable entries level x cy f
-row-refinable {entries} {level} {x = x} {y} {cy} d h k e q = record {
-  drawable = d .drawable;
-  x-below = k;
-  y-below = omega (arith, pow-succ' 2 level);
-  is-figure = q ∙ ap (λ j. figureIn entries level x j) {y = cy / 2} (omega arith);
-}
+pub next-cell : {A : Type 0} {g : ℤ → A} {o : A} {entries : List ℤ} {level n y x : ℕ} {before l : List A} → RowPlaces n y (length before)
+    → RowsBelow g o entries level y before l x → 0 < x → x ≤ n → NextCell n y x (length l)
+next-cell {n = n} {y} p r h k = record { places = subst⁻¹ (RowPlaces n y) (r .same-length) p; left = h; within = k }
+
+-- ---- what the cell that is next asks for
+module _ {entries : List ℤ} {level n y x : ℕ} (e : n ≡ 2 ^ level) where
+  -- where the picture is drawn over its parents
+  pub parent-kept : {A : Type 0} {g : ℤ → A} {o : A} {before l : List A} {room : ℕ} → NextCell n y x room → RowsBelow g o entries level y before l x
+      → getD l (y * n + (x - 1)) o ≡ getD before (y * n + (x - 1)) o
+  parent-kept p r = r .low _ (omega (arith, p .left, ap (λ n. y * n) e))
+
+  pub row-parent : {l : List ℤ} {room : ℕ} → NextCell n y x room → RowParents entries level y l
+      → getD l (y * n + (x - 1)) (pos 0) ≡ figureIn entries level (x - 1) y
+  row-parent {l} p r = ap (λ n. getD l (y * n + (x - 1)) (pos 0)) e ∙ r .entry (x - 1) (omega (arith, p .left, p .within))
+
+  -- of its children in row cy, by its figure as it is read
+  pub row-refinable : {room size cy : ℕ} {f : ℤ} → DrawableBelow entries level room → NextCell n y x size → cy / 2 ≡ y → f ≡ figureIn entries level (x - 1) y
+      → Refinable entries level (x - 1) cy (back f)
+  row-refinable {cy = cy} {f} d p q h =
+      let r : Refinable entries level (x - 1) cy f = record {
+        drawable = d .drawable;
+        x-below = omega (arith, p .left, p .within);
+        y-below = omega (arith, p .places .row, pow-succ' 2 level);
+        is-figure = h ∙ ap (λ j. figureIn entries level (x - 1) j) {y = cy / 2} (omega arith);
+      } in
+      subst⁻¹ (Refinable entries level (x - 1) cy) (back-is tt (parent-within r)) r
 
 module _ {A : Type 0} {g : ℤ → A} {o : A} {entries : List ℤ} {level y : ℕ} {before : List A} where
   pub rows-start : {x : ℕ} → x ≡ 2 ^ level → RowsBelow g o entries level y before before x
@@ -127,14 +148,16 @@ module _ {A : Type 0} {g : ℤ → A} {o : A} {entries : List ℤ} {level y : �
                 ]
           ]
 
-  pub rows-step : {l first second : List A} {x k m : ℕ} {a b c d : A} → RowPlaces (2 ^ level) y (length before) → 0 < x → x ≤ 2 ^ level
-      → RowsBelow g o entries level y before l x → k ≡ 4 * (y * 2 ^ level) + 2 * (x - 1) → m ≡ k + 2 * 2 ^ level
-      → first ≡ putPair a b k l → second ≡ putPair c d m first
-      → a ≡ g (figureIn entries (suc level) (2 * (x - 1)) (2 * y)) → b ≡ g (figureIn entries (suc level) (2 * (x - 1) + 1) (2 * y))
-      → c ≡ g (figureIn entries (suc level) (2 * (x - 1)) (2 * y + 1)) → d ≡ g (figureIn entries (suc level) (2 * (x - 1) + 1) (2 * y + 1))
+  pub rows-step : {l first second : List A} {n x k m : ℕ} {p q : Pair} → n ≡ 2 ^ level → NextCell n y x (length l) → RowsBelow g o entries level y before l x
+      → k ≡ 4 * (y * n) + 2 * (x - 1) → m ≡ k + 2 * n
+      → IsPair entries level (x - 1) (2 * y) p → IsPair entries level (x - 1) (2 * y + 1) q
+      → first ≡ putPair (g (p .left)) (g (p .right)) k l → second ≡ putPair (g (q .left)) (g (q .right)) m first
       → RowsBelow g o entries level y before second (x - 1)
-  rows-step {x = x} {m = m} {c = c} {d} p h few r ek em e f ea eb ec ed =
-      subst⁻¹ (λ l. RowsBelow g o entries level y before l (x - 1)) (f ∙ ap (putPair c d m) e) (rows-put p h few r ek em ea eb ec ed)
+  rows-step {x = x} {m = m} {q = q} e c r ek em up down first second =
+      let row = ap (λ n. y * n) e in
+      subst⁻¹ (λ l. RowsBelow g o entries level y before l (x - 1)) (second ∙ ap (putPair (g (q .left)) (g (q .right)) m) first)
+      (rows-put (subst₂ (λ n room. RowPlaces n y room) e (r .same-length) (c .places)) (c .left) (omega (arith, c .within)) r (omega arith) (omega arith)
+      (ap g (up .left-is)) (ap g (up .right-is)) (ap g (down .left-is)) (ap g (down .right-is)))
 
   pub rows-end : {l : List A} {x : ℕ} → x ≡ 0 → RowsBelow g o entries level y before l x → RowsBelow g o entries level y before l 0
   rows-end {l} e r = subst (RowsBelow g o entries level y before l) e r

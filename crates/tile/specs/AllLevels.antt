@@ -5,19 +5,19 @@
 --   LevelByLevel, level-by-level             each level's part of it
 use mathlib.Core.Path.{_≡_, sym, _∙_, ap}
 use mathlib.Core.List.{List}
-use Prim.Native.Nat.{ℕ, suc, _+_, _^_, _<_, _≤_}
+use Prim.Native.Nat.{ℕ, suc, _^_, _≤_}
 use native.Mathlib.Omega.{arith}
 use lib.ListN.{length}
 use lib.IntN.{ℤ}
 use Rattle.haar.specs.Greys.{greyOf}
-use Rattle.haar.specs.Pyramid.{places, pyramidIn}
+use Rattle.haar.specs.Pyramid.{pyramidIn}
 use Rattle.haar.specs.Laws.Pyramid.{pyramid-level}
 use Rattle.tile.specs.Questions.{depthOf}
 use Rattle.tile.specs.Outcomes.{drawRefusal, greysPicture, pyramidRefusal, pyramidPictures, levelPart}
 use Rattle.tile.specs.Refusals.{pyramid-refusals, question7-means}
 use Rattle.tile.specs.DrawnFigures.{greys-drawn}
 use Rattle.tile.specs.Laws.IfDone.{if-done}
-use Rattle.tile.specs.Laws.DrawnTable.{LevelYes, drawn-accepted}
+use Rattle.tile.specs.Laws.DrawnTable.{drawn-accepted}
 
 pub pyramid-drawn : (side : ℕ) (table : List ℤ) (pictures : List ℕ) → pyramidRefusal side table (length pictures) ≡ 0
     → pyramidPictures side table pictures ≡ pyramidIn (greyOf side) table (suc (depthOf side))

@@ -1,17 +1,15 @@
 -- From the last cell of the row to the first.
-use mathlib.Core.Path.{_≡_, _∙_, ap, ap₂, subst, subst⁻¹}
-use Prim.Native.Nat.{ℕ, _+_, _*_, _-_, _/_, _^_, _<_, _≤_}
+use mathlib.Core.Path.{_≡_, _∙_, ap₂}
+use Prim.Native.Nat.{ℕ, _+_, _*_, _-_, _/_, _^_, _≤_}
 use native.Mathlib.Omega.{arith}
 use lib.ListN.{length, getD}
-use lib.IntN.{ℤ, pos}
-use Rattle.integers.specs.Bits.{back, back-is}
+use lib.IntN.{pos}
+use Rattle.integers.specs.Bits.{back}
 use Rattle.haar.specs.Greys.{greyOf}
-use Rattle.haar.specs.Plane.{figureIn}
 use Rattle.haar.specs.Pairs.{Refinable}
 use Rattle.haar.specs.Levels.{RowsBelow}
 use Rattle.haar.specs.Laws.Cells.{level-square}
-use Rattle.haar.proofs.CellDetails.{parent-within}
-use Rattle.haar.proofs.TwoRows.{stored-length, NextCell, RowPlaces, row-places, row-refinable, rows-start, rows-step, rows-end}
+use Rattle.haar.proofs.TwoRows.{stored-length, RowPlaces, row-places, NextCell, next-cell, row-parent, row-refinable, rows-start, rows-step, rows-end}
 use Rattle.haar.proofs.grey_rows.Statement.{statement}
 use Rattle.haar.proofs.grey_rows.Tie as tie
 
@@ -40,35 +38,17 @@ module _ (i : tie.In-loop Inv-loop μ-loop) where
   start = across .before .before
 
   at : NextCell (across .cells-across .result) (start .args .y) (i .before .loop .x) (length (i .before .loop .picture))
-  at = record {
-    places = subst⁻¹ (RowPlaces (across .cells-across .result) (start .args .y)) (i .before .loop .inv .0 .same-length) (places across);
-    left = i .loop-test .taken;
-    within = i .before .loop .inv .1;
-  }
-
-  -- the same numbers by the level
-  row-is : start .args .y * across .cells-across .result ≡ start .args .y * 2 ^ start .args .level
-  row-is = ap (λ n. start .args .y * n) (across .cells-across .ensures)
+  at = next-cell (places across) (i .before .loop .inv .0) (i .loop-test .taken) (i .before .loop .inv .1)
 
   figures-enough : across .cells-across .result * across .cells-across .result ≤ length (start .args .figures .now)
   figures-enough =
       let n = across .cells-across .ensures in
       omega (arith, start .pre .2, ap₂ _*_ n n ∙ level-square (start .args .level))
 
-  parent-is : getD (start .args .figures .now) (start .args .y * across .cells-across .result + (i .before .loop .x - 1)) (pos 0)
-      ≡ figureIn (start .args .table .now) (start .args .level) (i .before .loop .x - 1) (start .args .y)
-  parent-is =
-      let p = at in
-      ap (λ k. getD (start .args .figures .now) (k + (i .before .loop .x - 1)) (pos 0)) row-is
-      ∙ start .pre .1 .entry (i .before .loop .x - 1) (omega (arith, across .cells-across .ensures))
-
   asks : (cy : ℕ) → cy / 2 ≡ start .args .y
       → Refinable (start .args .table .now) (start .args .level) (i .before .loop .x - 1) cy
       (back (getD (start .args .figures .now) (start .args .y * across .cells-across .result + (i .before .loop .x - 1)) (pos 0)))
-  asks cy h =
-      let p = at in
-      let r = row-refinable {cy = cy} (start .pre .0) (start .pre .1 .y-below) (omega (arith, across .cells-across .ensures)) h parent-is in
-      subst⁻¹ (Refinable (start .args .table .now) (start .args .level) (i .before .loop .x - 1) cy) (back-is tt (parent-within r)) r
+  asks cy h = let e = across .cells-across .ensures in row-refinable e {cy = cy} (start .pre .0) at h (row-parent e at (start .pre .1))
 
 put-greys-requires-2 : tie.Need-put-greys-requires-2 Inv-loop μ-loop
 put-greys-requires-2 c κs =
@@ -81,15 +61,12 @@ put-greys-requires-2 c κs =
 
 loop-again : tie.Need-loop-again Inv-loop μ-loop
 loop-again c =
-    let i = c .before .before .before .before .before .before .before .before .before .before .before in
-    let u = c .before .before .before .before .before .before .before .before .before .children-in-row .ensures in
-    let w = c .before .before .before .before .before .before .before .before .children-in-row2 .ensures in
-    let p = at i in
-    let e = across i .cells-across .ensures in (
-      rows-step (subst (λ n. RowPlaces n (start i .args .y) (length (start i .args .picture .now))) e (places (across i)))
-          (i .loop-test .taken) (omega (arith, e)) (i .before .loop .inv .0) (omega (arith, row-is i)) (omega (arith, e))
-          (c .before .before .before .before .before .before .put-greys .ensures) (c .before .before .put-greys2 .ensures) (ap (greyOf (2 ^ start i .args .depth)) (u .left-is)) (ap (greyOf (2 ^ start i .args .depth)) (u .right-is)) (ap (greyOf (2 ^ start i .args .depth)) (w .left-is)) (ap (greyOf (2 ^ start i .args .depth)) (w .right-is)),
-      omega arith,
+    let i = c .before .before .before .before .before .before .before .before .before .before .before in (
+      rows-step (across i .cells-across .ensures) (at i) (i .before .loop .inv .0) (omega arith) (omega arith)
+          (c .before .before .before .before .before .before .before .before .before .children-in-row .ensures)
+          (c .before .before .before .before .before .before .before .before .children-in-row2 .ensures)
+          (c .before .before .before .before .before .before .put-greys .ensures) (c .before .before .put-greys2 .ensures),
+      let p = at i in omega arith,
     )
 
 pub grey-rows-spec : {M : Type 1} → statement M

@@ -1,9 +1,9 @@
 -- Three times the places, and one, are the cells of the next level.
 use mathlib.Core.Path.{_≡_, _∙_, ap₂}
-use Prim.Native.Nat.{suc, _+_, _*_, _^_, _≤_}
+use Prim.Native.Nat.{suc, _+_, _*_, _≤_}
 use native.Mathlib.Omega.{arith}
 use native.Mathlib.Nat.{pow-succ', mul-le-mul}
-use lib.Pow.{pow-mono, pow-pos}
+use lib.Pow.{pow-mono}
 use borrow.Author.Needs.{needs}
 use Rattle.integers.specs.Units.{greatestSide}
 use Rattle.haar.specs.Pyramid.{places}

@@ -1,7 +1,6 @@
 -- Two greys, one after the other.
 use mathlib.Core.Path.{_∙_, ap, ap₂}
-use Prim.Native.Nat.{ℕ, _^_}
-use lib.IntN.{ℤ}
+use Prim.Native.Nat.{_^_}
 use borrow.Author.Needs.{needs}
 use Rattle.integers.specs.Bits.{field-is}
 use Rattle.haar.specs.Greys.{greyOf}

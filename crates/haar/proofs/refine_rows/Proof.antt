@@ -1,15 +1,13 @@
 -- From the last cell of the row to the first.
-use mathlib.Core.Path.{_≡_, _∙_, ap, subst, subst⁻¹}
-use Prim.Native.Nat.{ℕ, _+_, _*_, _-_, _/_, _^_, _<_, _≤_}
+use mathlib.Core.Path.{_≡_, _∙_}
+use Prim.Native.Nat.{ℕ, _+_, _*_, _-_, _/_, _≤_}
 use native.Mathlib.Omega.{arith}
 use lib.ListN.{length, getD}
 use lib.IntN.{pos}
-use Rattle.integers.specs.Bits.{back, back-is}
-use Rattle.haar.specs.Plane.{figureIn}
+use Rattle.integers.specs.Bits.{back}
 use Rattle.haar.specs.Pairs.{Refinable}
 use Rattle.haar.specs.Levels.{RowsBelow}
-use Rattle.haar.proofs.CellDetails.{parent-within}
-use Rattle.haar.proofs.TwoRows.{stored-length, NextCell, RowPlaces, row-places, row-refinable, rows-start, rows-step, rows-end}
+use Rattle.haar.proofs.TwoRows.{stored-length, RowPlaces, row-places, NextCell, next-cell, parent-kept, row-parent, row-refinable, rows-start, rows-step, rows-end}
 use Rattle.haar.proofs.refine_rows.Statement.{statement}
 use Rattle.haar.proofs.refine_rows.Tie as tie
 
@@ -38,31 +36,14 @@ module _ (i : tie.In-loop Inv-loop μ-loop) where
   start = across .before
 
   at : NextCell (across .cells-across .result) (start .args .y) (i .before .loop .x) (length (i .before .loop .picture))
-  at = record {
-    places = subst⁻¹ (RowPlaces (across .cells-across .result) (start .args .y)) (i .before .loop .inv .0 .same-length) (places across);
-    left = i .loop-test .taken;
-    within = i .before .loop .inv .1;
-  }
-
-  -- the same numbers by the level
-  row-is : start .args .y * across .cells-across .result ≡ start .args .y * 2 ^ start .args .level
-  row-is = ap (λ n. start .args .y * n) (across .cells-across .ensures)
-
-  parent-is : getD (i .before .loop .picture) (start .args .y * across .cells-across .result + (i .before .loop .x - 1)) (pos 0)
-      ≡ figureIn (start .args .table .now) (start .args .level) (i .before .loop .x - 1) (start .args .y)
-  parent-is =
-      let p = at in
-      i .before .loop .inv .0 .low _ (omega (arith, row-is))
-      ∙ ap (λ k. getD (start .args .picture .now) (k + (i .before .loop .x - 1)) (pos 0)) row-is
-      ∙ start .pre .1 .entry (i .before .loop .x - 1) (omega (arith, across .cells-across .ensures))
+  at = next-cell (places across) (i .before .loop .inv .0) (i .loop-test .taken) (i .before .loop .inv .1)
 
   asks : (cy : ℕ) → cy / 2 ≡ start .args .y
       → Refinable (start .args .table .now) (start .args .level) (i .before .loop .x - 1) cy
       (back (getD (i .before .loop .picture) (start .args .y * across .cells-across .result + (i .before .loop .x - 1)) (pos 0)))
   asks cy h =
-      let p = at in
-      let r = row-refinable {cy = cy} (start .pre .0) (start .pre .1 .y-below) (omega (arith, across .cells-across .ensures)) h parent-is in
-      subst⁻¹ (Refinable (start .args .table .now) (start .args .level) (i .before .loop .x - 1) cy) (back-is tt (parent-within r)) r
+      let e = across .cells-across .ensures in
+      row-refinable e {cy = cy} (start .pre .0) at h (parent-kept e at (i .before .loop .inv .0) ∙ row-parent e at (start .pre .1))
 
 put-figures-requires-2 : tie.Need-put-figures-requires-2 Inv-loop μ-loop
 put-figures-requires-2 c κs =
@@ -75,15 +56,12 @@ put-figures-requires-2 c κs =
 
 loop-again : tie.Need-loop-again Inv-loop μ-loop
 loop-again c =
-    let i = c .before .before .before .before .before .before .before .before .before in
-    let u = c .before .before .before .before .before .before .before .children-in-row .ensures in
-    let w = c .before .before .before .before .before .before .children-in-row2 .ensures in
-    let p = at i in
-    let e = across i .cells-across .ensures in (
-      rows-step (subst (λ n. RowPlaces n (start i .args .y) (length (start i .args .picture .now))) e (places (across i)))
-          (i .loop-test .taken) (omega (arith, e)) (i .before .loop .inv .0) (omega (arith, row-is i)) (omega (arith, e))
-          (c .before .before .before .before .put-figures .ensures) (c .before .put-figures2 .ensures) (u .left-is) (u .right-is) (w .left-is) (w .right-is),
-      omega arith,
+    let i = c .before .before .before .before .before .before .before .before .before in (
+      rows-step (across i .cells-across .ensures) (at i) (i .before .loop .inv .0) (omega arith) (omega arith)
+          (c .before .before .before .before .before .before .before .children-in-row .ensures)
+          (c .before .before .before .before .before .before .children-in-row2 .ensures)
+          (c .before .before .before .before .put-figures .ensures) (c .before .put-figures2 .ensures),
+      let p = at i in omega arith,
     )
 
 pub refine-rows-spec : {M : Type 1} → statement M
