@@ -1,7 +1,6 @@
 -- Two rows of a level from the row of their parents, the last cell first.
 --
 -- Main results
---   stored-length                             a list into which a pair was put is as long as before
 --   RowPlaces, row-places                     where the rows stand
 --   NextCell, next-cell                       which cell is next
 --   parent-kept, row-parent                   its figure is where it was, in place too
@@ -41,9 +40,6 @@ module _ {A : Type 0} (o a b : A) (k : ℕ) (l : List A) where
 
   pair-second : k + 1 < length l → getD (putPair a b k l) (k + 1) o ≡ b
   pair-second h = getD-set-same (set l k a) (k + 1) b o (omega (arith, length-set l k a))
-
-pub stored-length : {A : Type 0} (a b : A) (k : ℕ) (l : List A) {m : List A} → m ≡ putPair a b k l → length m ≡ length l
-stored-length a b k l e = ap length e ∙ pair-length a a b k l
 
 -- ---- where things stand, for the machine's sums
 -- n cells across, y × n the first of row y

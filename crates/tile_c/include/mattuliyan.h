@@ -1,4 +1,4 @@
-/* Grey tiles from traced outlines: the sixteen calls of the proved library libtile_c.a, which `rt staticlib tile_c` makes.
+/* Grey tiles from traced outlines: the seventeen calls of the proved library libtile_c.a, which `rt staticlib tile_c` makes.
  *
  * A tile is a square of 1, 2, 4, 8, 16, 32 or 64 pixels a side; a step is 1/256 pixel; x grows to the right, y downwards. An outline is
  * closed contours of whole points, letters clockwise as seen on the page, the holes in them anticlockwise, or all of it the other way round:
@@ -27,7 +27,7 @@
  *   of curves, building: 1, 2, 4, 16, 3, 12, 6, 5
  *   of curves, putting in: 1, 2, 4, 16, 3, 12, 6, 5, 9      taking out: 1, 2, 4, 16, 3, 12, 6, 5, 13, 9
  *   of curves on a sheet: the same, with 14, 15 in the place of 1
- *   pictures and greys: 1, 2, 7, 8, 9      one cell: 1, 2, 7, 10, 9
+ *   pictures and greys: 1, 2, 7, 8, 9      one cell: 1, 2, 7, 10, 9      the greys of all levels: 1, 2, 8, 9
  *
  *    1  Is the side 1, 2, 4, 8, 16, 32 or 64?
  *    2  Has the table exactly side x side entries? (On a sheet, the side is the tile's.)
@@ -39,7 +39,7 @@
  *       answered 5 where the contour has more.)
  *    6  Is every coordinate, as placed, from 0 to 256 x side? On a sheet: to 256 x sheet, the sheet's side. Of curves: control points' too.
  *    7  Is the level at most the depth, the number of halvings from the side to 1?
- *    8  Has the picture exactly 4^level places?
+ *    8  Has the picture exactly 4^level places? Of all levels: are there exactly 1 + 4 + .. + 4^depth?
  *    9  Is every entry of the table from -2^40 to 2^40? For putting in and taking out: of the table as it is, and of the one that the call
  *       would leave.
  *   10  Are both cell numbers below 2^level?
@@ -172,6 +172,10 @@ uint32_t mattuliyan_figures(uint32_t side, uint32_t level, const int64_t *table,
  * side), to the nearest whole number, halves up, and at most 255. Where contours of opposite directions share a pixel, they cancel. */
 uint32_t mattuliyan_greys(uint32_t side, uint32_t level, const int64_t *table, size_t table_length, uint8_t *picture,
                           size_t picture_length);
+
+/* Draws the greys of every level, from 0 to the depth, one picture after the other: each is what mattuliyan_greys draws of its level, 4^level
+ * places. Level 0 has the first place, level 1 the next four, and so on. It takes less time than a call for each level. */
+uint32_t mattuliyan_pyramid(uint32_t side, const int64_t *table, size_t table_length, uint8_t *pictures, size_t pictures_length);
 
 /* The figure of one cell, column cx and row cy of the level. *figure becomes it, or 0 where the call is refused. */
 uint32_t mattuliyan_cell(uint32_t side, uint32_t level, uint32_t cx, uint32_t cy, const int64_t *table, size_t table_length,

@@ -1,10 +1,12 @@
-// The sixteen calls for programs in C or Rust: `include/mattuliyan.h` declares them, and says what its caller owes.
+// The seventeen calls for programs in C or Rust: `include/mattuliyan.h` declares them, and says what its caller owes.
 //
 // A slice is passed as a pointer and a length, a place on a sheet as its four numbers. A call that answers two numbers answers the first, that of the refusal or
 // 0, and writes the second through a pointer.
 ghost use mathlib.Core.Path.{_≡_};
 ghost use lib.ListN.{length};
 ghost use Rattle.tile.specs.Outcomes.{buildResult, buildTable, placedResult, placedTable, drawRefusal, figuresPicture, greysPicture, cellResult};
+ghost use Rattle.tile.specs.Outcomes.{pyramidRefusal, pyramidPictures};
+ghost use Rattle.tile.specs.AllLevels.{LevelByLevel};
 ghost use Rattle.tile.specs.Faithful.{Faithful, FaithfulPlaced};
 ghost use Rattle.sheet.specs.SheetOutcomes.{tileAt, sheetResult, sheetTable};
 ghost use Rattle.sheet.specs.FaithfulOnSheet.{FaithfulOnSheet};
@@ -397,6 +399,17 @@ pub extern "C" fn mattuliyan_greys(side: u32, level: u32, table: &[i64], picture
     ensures { λ _. ⌜ now (table .exit) ≡ now (table .entry) ⌝ }
 {
     tile::greys(side, level, table, picture)
+}
+
+// `tile::pyramid`.
+#[no_mangle]
+pub extern "C" fn mattuliyan_pyramid(side: u32, table: &[i64], pictures: &mut [u8]) -> u32
+    ensures { λ r. ⌜ r ≡ pyramidRefusal side (now (table .entry)) (length (now (pictures .entry))) ⌝ }
+    ensures { λ _. ⌜ now (pictures .exit) ≡ pyramidPictures side (now (table .entry)) (now (pictures .entry)) ⌝ }
+    ensures { λ _. ⌜ LevelByLevel side (now (table .entry)) (now (pictures .entry)) (now (pictures .exit)) ⌝ }
+    ensures { λ _. ⌜ now (table .exit) ≡ now (table .entry) ⌝ }
+{
+    tile::pyramid(side, table, pictures)
 }
 
 // `tile::cell`: the number, and the figure into `figure`, 0 where it is refused.

@@ -9,7 +9,7 @@ use Rattle.haar.specs.Greys.{greyOf}
 use Rattle.haar.specs.Pairs.{Refinable}
 use Rattle.haar.specs.Levels.{RowsBelow}
 use Rattle.haar.specs.Laws.Cells.{level-square}
-use Rattle.haar.proofs.TwoRows.{stored-length, RowPlaces, row-places, NextCell, next-cell, row-parent, row-refinable, rows-start, rows-step, rows-end}
+use Rattle.haar.proofs.TwoRows.{RowPlaces, row-places, NextCell, next-cell, row-parent, row-refinable, rows-start, rows-step, rows-end}
 use Rattle.haar.proofs.grey_rows.Statement.{statement}
 use Rattle.haar.proofs.grey_rows.Tie as tie
 
@@ -50,14 +50,17 @@ module _ (i : tie.In-loop Inv-loop μ-loop) where
       (back (getD (start .args .figures .now) (start .args .y * across .cells-across .result + (i .before .loop .x - 1)) (pos 0)))
   asks cy h = let e = across .cells-across .ensures in row-refinable e {cy = cy} (start .pre .0) at h (row-parent e at (start .pre .1))
 
+put-greys-requires : tie.Need-put-greys-requires Inv-loop μ-loop
+put-greys-requires c κs =
+    let i = c .before .before .before .before in
+    let p = at i in
+    (omega arith, omega arith, omega (arith, start i .pre .3, start i .pre .0 .drawable .shallow))
+
 put-greys-requires-2 : tie.Need-put-greys-requires-2 Inv-loop μ-loop
 put-greys-requires-2 c κs =
     let i = c .before .before .before .before .before .before .before .before in
-    let pair = c .before .before .before .before .before .before .children-in-row .result in
     let p = at i in
-    let k = 4 * (start i .args .y * across i .cells-across .result) + 2 * (i .before .loop .x - 1) in
-    let same = stored-length (greyOf (2 ^ start i .args .depth) (pair .left)) (greyOf (2 ^ start i .args .depth) (pair .right)) k (i .before .loop .picture) (c .before .before .before .put-greys .ensures) in
-    (omega arith, omega arith, start i .pre .3)
+    (omega arith, omega arith, omega (arith, start i .pre .3, start i .pre .0 .drawable .shallow))
 
 loop-again : tie.Need-loop-again Inv-loop μ-loop
 loop-again c =
@@ -90,7 +93,7 @@ grey-rows-spec =
     (λ c. let p = at (c .before .before .before) in record { fits = omega arith })
     (λ c. let p = at (c .before .before .before) in record { fits = omega arith })
     (λ c. let p = at (c .before .before .before) in record { fits = omega arith })
-    (λ c κs. let p = at (c .before .before .before .before) in (omega arith, omega arith, start (c .before .before .before .before) .pre .3))
+    put-greys-requires
     (λ c. let p = at (c .before .before .before .before .before .before .before) in record { fits = omega arith })
     (λ c. let p = at (c .before .before .before .before .before .before .before) in record { fits = omega arith })
     put-greys-requires-2

@@ -60,7 +60,7 @@ add-places-to : tie.Need-add-places-to Inv-loop μ-loop
 add-places-to c = record { fits = omega (arith, few (c .before)) }
 
 places-to-requires-2 : tie.Need-places-to-requires-2 Inv-loop μ-loop
-places-to-requires-2 c κs = few (c .before)
+places-to-requires-2 c κs = omega (arith, few (c .before))
 
 -- where it stands
 module _ (c : tie.After-places-to2 Inv-loop μ-loop) where

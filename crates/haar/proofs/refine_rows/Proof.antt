@@ -7,7 +7,7 @@ use lib.IntN.{pos}
 use Rattle.integers.specs.Bits.{back}
 use Rattle.haar.specs.Pairs.{Refinable}
 use Rattle.haar.specs.Levels.{RowsBelow}
-use Rattle.haar.proofs.TwoRows.{stored-length, RowPlaces, row-places, NextCell, next-cell, parent-kept, row-parent, row-refinable, rows-start, rows-step, rows-end}
+use Rattle.haar.proofs.TwoRows.{RowPlaces, row-places, NextCell, next-cell, parent-kept, row-parent, row-refinable, rows-start, rows-step, rows-end}
 use Rattle.haar.proofs.refine_rows.Statement.{statement}
 use Rattle.haar.proofs.refine_rows.Tie as tie
 
@@ -47,11 +47,7 @@ module _ (i : tie.In-loop Inv-loop μ-loop) where
 
 put-figures-requires-2 : tie.Need-put-figures-requires-2 Inv-loop μ-loop
 put-figures-requires-2 c κs =
-    let i = c .before .before .before .before .before .before .before in
-    let pair = c .before .before .before .before .before .children-in-row .result in
-    let p = at i in
-    let k = 4 * (start i .args .y * across i .cells-across .result) + 2 * (i .before .loop .x - 1) in
-    let same = stored-length (pair .left) (pair .right) k (i .before .loop .picture) (c .before .before .put-figures .ensures) in
+    let p = at (c .before .before .before .before .before .before .before) in
     (omega arith, omega arith)
 
 loop-again : tie.Need-loop-again Inv-loop μ-loop
