@@ -1,4 +1,4 @@
--- What the five public calls answer and leave, for every input; and what is promised of an outline and of what is drawn of it. Read in this order.
+-- What the six public calls answer and leave, for every input; and what is promised of an outline and of what is drawn of it. Read in this order.
 --
 -- What is cited of the crates below is defined in their files of definitions. The trail of an entry: Outline, OutlineTable and Tile of `accuracy`,
 -- then Rounded, Integrals and Walk of `edge`, with Clamp, Tent, Trapezoid and Rounding of `integers`. Of an exact area: ExactArea of `accuracy`, then

@@ -378,6 +378,12 @@ pub fn greys(
     picture("greys", table, held, expected, |table, picture| mattuliyan::greys(side, level, table, picture))
 }
 
+/// The greys of every level, likewise.
+pub fn pyramid(rules: &dyn Rules, side: u32, table: &[i64], held: &[u8]) -> Result<Result<Vec<u8>, u8>, Difference> {
+    let expected = reference::pyramid(rules, side, table, held.len());
+    picture("pyramid", table, held, expected, |table, pictures| mattuliyan::pyramid(side, table, pictures))
+}
+
 /// One cell: what the library answers, which the reference says too.
 pub fn cell(
     rules: &dyn Rules,

@@ -1,7 +1,7 @@
 //! Calls that may be refused: sound ones with some part damaged, often two parts, so that the order of the questions matters.
 use crate::calls::{Correcting, Ground, Tile};
 use crate::curves::Curved;
-use crate::outlines::{Outline, MOST_EDGES, SIDES};
+use crate::outlines::{self, Outline, MOST_EDGES, SIDES};
 use crate::placements::{self, FACTOR, HIGHEST, LOWEST, OFFSET, PART};
 use crate::random::Random;
 use crate::sheets::{self, PAIRS};
@@ -74,6 +74,12 @@ pub struct Drawing {
     pub level: u32,
     pub cx: u32,
     pub cy: u32,
+    pub table: Vec<i64>,
+    pub places: usize,
+}
+
+pub struct EveryLevel {
+    pub side: u32,
     pub table: Vec<i64>,
     pub places: usize,
 }
@@ -341,6 +347,33 @@ pub fn drawing(random: &mut Random, side: u32) -> Drawing {
                 let number = random.pick(&[across, across - 1, 2 * across, beyond, BEYOND_16_BITS, 1 << 31, u32::MAX]);
                 *random.pick_mut(&mut call.cx, &mut call.cy) = number;
             }
+        }
+    }
+    call
+}
+
+/// The greys of every level of a table, damaged in one or two parts.
+pub fn every_level(random: &mut Random, side: u32) -> EveryLevel {
+    let table = table_in_range(random, (side * side) as usize);
+    let (deepest, places) = ((side * side) as usize, outlines::all_places(side));
+    let mut call = EveryLevel { side, table, places };
+    for _ in 0..random.within(1, 2) {
+        match random.index(5) {
+            0 => no_side(random, &mut call.side, &mut call.table),
+            1 => call.side = random.pick(&SIDES),
+            2 => resize(random, &mut call.table),
+            3 => {
+                call.places = random.pick(&[
+                    0,
+                    places + 1,
+                    places - 1,
+                    deepest,
+                    places - deepest,
+                    places + 4 * deepest,
+                    places + BEYOND_16_BITS as usize,
+                ]);
+            }
+            _ => put(random, &mut call.table, ENTRIES),
         }
     }
     call

@@ -35,7 +35,7 @@ const LARGE_ONE_IN: u64 = 100;
 /// Cells that are drawn one by one in a level with more than these; in a smaller level all are.
 const CELLS_ALONE: usize = 64;
 
-/// Calls that may be refused, of building, of building with a placement and of drawing each, in a case.
+/// Calls that may be refused, of building, of building with a placement, of drawing and of drawing every level each, in a case.
 const DAMAGED_CALLS: u32 = 2;
 
 /// One more than the greatest number that a call answers: 0 is the work done; 11 is the tile program's own and is not answered here.
@@ -161,7 +161,11 @@ pub fn case(rules: &dyn Rules, seed: u64, number: u64, seen: &mut Seen) -> Resul
         damaged_placing(rules, random, ground, &outline, seen)?;
         damaged_drawing(rules, random, side, seen)?;
     }
-    any_pictures(rules, random, side, seen)
+    any_pictures(rules, random, side, seen)?;
+    for _ in 0..DAMAGED_CALLS {
+        damaged_every_level(rules, random, side, seen)?;
+    }
+    Ok(())
 }
 
 /// Builds an accepted outline, draws all there is to draw, and holds it to demand 3.
@@ -182,8 +186,10 @@ pub fn from_outline_to_pictures(
     seen.edges += edges as u64;
     seen.empty += counts.is_empty() as u64;
     seen.largest[outline.depth() as usize] += (edges == outlines::MOST_EDGES) as u64;
+    let mut one_by_one = Vec::new();
     for level in 0..=outline.depth() {
         let (figures, greys) = pictures(rules, random, side, level, &table, seen)?;
+        one_by_one.extend(&greys);
         let looked = demand3::near_by(rules, outline, level, area, &figures, &greys)?;
         if level == outline.depth() {
             let [above, below] = looked.inked;
@@ -193,7 +199,7 @@ pub fn from_outline_to_pictures(
         seen.add_level(looked);
         cells_alone(rules, random, side, level, &table, &figures, seen)?;
     }
-    Ok(())
+    every_level(rules, side, &table, &one_by_one, seen)
 }
 
 /// Builds an outline much like this one from points that are placed, draws every level, and holds it to demand 3 of the points as placed. (Not
@@ -239,6 +245,22 @@ fn pictures(
     Ok((figures, greys))
 }
 
+/// Draws every level of a table in one call: these greys, which were drawn one level at a time.
+fn every_level(
+    rules: &dyn Rules,
+    side: u32,
+    table: &[i64],
+    one_by_one: &[u8],
+    seen: &mut Seen,
+) -> Result<(), Difference> {
+    // whatever the list holds before, none of the greys is in its place by chance
+    let held: Vec<u8> = one_by_one.iter().map(|grey| !grey).collect();
+    if seen.answer(calls::pyramid(rules, side, table, &held)?).as_deref() != Some(one_by_one) {
+        return Err(Difference("the greys of every level are not those of each".to_string()));
+    }
+    Ok(())
+}
+
 /// Draws cells of a level one by one: all, or some where there are many.
 fn cells_alone(
     rules: &dyn Rules,
@@ -262,11 +284,13 @@ fn cells_alone(
 /// Every level of a table that no outline need have, its entries up to the limit.
 fn any_pictures(rules: &dyn Rules, random: &mut Random, side: u32, seen: &mut Seen) -> Result<(), Difference> {
     let table = damage::table_in_range(random, (side * side) as usize);
+    let mut one_by_one = Vec::new();
     for level in 0..=side.trailing_zeros() {
-        let (figures, _) = pictures(rules, random, side, level, &table, seen)?;
+        let (figures, greys) = pictures(rules, random, side, level, &table, seen)?;
+        one_by_one.extend(greys);
         cells_alone(rules, random, side, level, &table, &figures, seen)?;
     }
-    Ok(())
+    every_level(rules, side, &table, &one_by_one, seen)
 }
 
 fn damaged_building(
@@ -300,6 +324,13 @@ fn damaged_drawing(rules: &dyn Rules, random: &mut Random, side: u32, seen: &mut
     seen.answer(calls::figures(rules, call.side, call.level, &call.table, &held)?);
     seen.answer(calls::greys(rules, call.side, call.level, &call.table, &bytes)?);
     seen.answer(calls::cell(rules, call.side, call.level, call.cx, call.cy, &call.table)?);
+    Ok(())
+}
+
+fn damaged_every_level(rules: &dyn Rules, random: &mut Random, side: u32, seen: &mut Seen) -> Result<(), Difference> {
+    let call = damage::every_level(random, side);
+    let held: Vec<u8> = damage::any_table(random, call.places).iter().map(|&entry| entry as u8).collect();
+    seen.answer(calls::pyramid(rules, call.side, &call.table, &held)?);
     Ok(())
 }
 

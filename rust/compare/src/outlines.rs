@@ -12,6 +12,21 @@ pub const SIDES: [u32; 7] = [1, 2, 4, 8, 16, 32, 64];
 pub const MOST_EDGES: u32 = Limits::SPEC.most_edges;
 pub const FEWEST_POINTS: u32 = Limits::SPEC.least_count;
 
+/// How many places the pictures of every level of a tile have together.
+pub fn all_places(side: u32) -> usize {
+    (0..=side.trailing_zeros()).map(|level| 1 << (2 * level)).sum()
+}
+
+/// The part of each level in such pictures, level 0 first.
+pub fn each_level(pictures: &[u8]) -> impl Iterator<Item = (u32, &[u8])> {
+    let mut rest = pictures;
+    (0..).map_while(move |level| {
+        let (picture, after) = rest.split_at_checked(1 << (2 * level))?;
+        rest = after;
+        Some((level, picture))
+    })
+}
+
 #[derive(Clone, Debug, PartialEq)]
 pub struct Outline {
     /// of the tile or of the sheet that it lies on

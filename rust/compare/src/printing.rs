@@ -1,4 +1,4 @@
-//! What the programs `placed` and `tiled` share: a frame from standard input, and an answer in the form of the tile program's.
+//! What the programs `placed`, `levels` and `tiled` share: a frame from standard input, and an answer in the form of the tile program's.
 use std::io::{Read, Write};
 use std::process::ExitCode;
 
@@ -16,7 +16,17 @@ pub fn answer(name: &str, printed: impl FnOnce(&[u8]) -> Result<String, u8>) -> 
 
 /// The edge count, the root and the rows of greys, so many in each.
 pub fn in_form(edges: u32, root: i64, greys: &[u8], across: usize) -> String {
-    let mut text = format!("{edges:04x}{root:016x}\n");
+    first_line(edges, root) + &rows(greys, across)
+}
+
+/// The edge count and the root.
+pub fn first_line(edges: u32, root: i64) -> String {
+    format!("{edges:04x}{root:016x}\n")
+}
+
+/// Rows of so many greys.
+pub fn rows(greys: &[u8], across: usize) -> String {
+    let mut text = String::new();
     for row in greys.chunks(across) {
         text.extend(row.iter().map(|grey| format!("{grey:02x}")));
         text.push('\n');

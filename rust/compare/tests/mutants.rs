@@ -21,9 +21,9 @@ fn first_difference(rules: &dyn Rules) -> Option<(u64, Difference)> {
 
 #[test]
 fn wrong_references_are_caught() {
-    use reference::wrong::{all, of_magnitude, of_placement};
-    let lists = [all(), of_placement(), of_magnitude()];
-    assert!(lists.iter().all(|list| list.len() >= 5));
+    use reference::wrong::{all, of_every_level, of_magnitude, of_placement};
+    let lists = [all(), of_placement(), of_magnitude(), of_every_level()];
+    assert!(lists.iter().all(|list| list.len() >= 3));
     for (name, rules) in lists.into_iter().flatten() {
         let (number, difference) =
             first_difference(&*rules).unwrap_or_else(|| panic!("{name}: not caught in {CASES} cases"));

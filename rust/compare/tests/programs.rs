@@ -1,4 +1,4 @@
-//! The programs as a person or `draw` runs them: the page of `exact`, `placed`, `tiled`, and `soak`.
+//! The programs as a person or `draw` runs them: the page of `exact`, `placed`, `levels`, `tiled`, and `soak`.
 use compare::outlines::Outline;
 use reference::{Placement, SheetTile, Spec};
 use std::fs;
@@ -20,28 +20,22 @@ fn traced_back(frame: &str) -> String {
     text
 }
 
-/// A folder of this test's own with the frame, of side 4, and what the tile program answers to it at each level.
-fn folder(test: &str, frame: &str) -> (PathBuf, Vec<PathBuf>) {
+/// A folder of this test's own with the frame, and what the tile program answers to it.
+fn folder(test: &str, frame: &str) -> PathBuf {
     let folder = Path::new(env!("CARGO_TARGET_TMPDIR")).join(test);
     fs::create_dir_all(&folder).unwrap();
     fs::write(folder.join("frame"), frame).unwrap();
-    let answer = |level| {
-        let path = folder.join(format!("answer-{level}"));
-        let text = frame.replacen("0402", &format!("040{level}"), 1);
-        fs::write(&path, reference::tile_program(&Spec, text.as_bytes())).unwrap();
-        path
-    };
-    let answers = (0..3).map(answer).collect();
-    (folder, answers)
+    fs::write(folder.join("answer"), reference::tile_program(&Spec, frame.as_bytes())).unwrap();
+    folder
 }
 
-fn exact(folder: &Path, answers: &[PathBuf]) -> Output {
-    exact_placed(folder, &[], answers)
+fn exact(folder: &Path) -> Output {
+    exact_placed(folder, &[])
 }
 
-fn exact_placed(folder: &Path, words: &[&str], answers: &[PathBuf]) -> Output {
+fn exact_placed(folder: &Path, words: &[&str]) -> Output {
     let mut exact = Command::new(env!("CARGO_BIN_EXE_exact"));
-    exact.arg("a letter").arg(folder.join("frame")).args(words).args(answers).output().unwrap()
+    exact.arg("a letter").arg(folder.join("frame")).args(words).arg(folder.join("answer")).output().unwrap()
 }
 
 /// The words of each cell's line.
@@ -56,8 +50,8 @@ fn text(output: &[u8]) -> String {
 
 #[test]
 fn page_of_a_letter() {
-    let (folder, answers) = folder("page", FRAME);
-    let output = exact(&folder, &answers);
+    let folder = folder("page", FRAME);
+    let output = exact(&folder);
     let page = text(&output.stdout);
     assert!(output.status.success(), "{page}{}", text(&output.stderr));
     assert!(page.starts_with("a letter: "));
@@ -66,7 +60,7 @@ fn page_of_a_letter() {
     let rows = cells(&page);
     assert_eq!(rows.len(), 16);
     let greys: Vec<u8> = rows.iter().map(|row| row[6].parse().unwrap()).collect();
-    let answered = fs::read_to_string(&answers[2]).unwrap();
+    let answered = fs::read_to_string(folder.join("answer")).unwrap();
     let printed: String =
         greys.chunks(4).map(|row| row.iter().map(|g| format!("{g:02x}")).collect::<String>() + "\n").collect();
     assert_eq!(printed, answered.split_once('\n').unwrap().1);
@@ -83,8 +77,7 @@ fn head(page: &str) -> Vec<&str> {
 #[test]
 fn page_of_a_letter_traced_anticlockwise() {
     let page = |test: &str, frame: &str| {
-        let (folder, answers) = folder(test, frame);
-        let output = exact(&folder, &answers);
+        let output = exact(&folder(test, frame));
         assert!(output.status.success(), "{}{}", text(&output.stdout), text(&output.stderr));
         text(&output.stdout)
     };
@@ -110,26 +103,32 @@ fn page_of_a_letter_traced_anticlockwise() {
 
 #[test]
 fn wrong_answers_are_told() {
-    let (folder, answers) = folder("wrong", FRAME);
-    let right = fs::read_to_string(&answers[1]).unwrap();
+    let folder = folder("wrong", &FRAME.replacen("0402", "0401", 1));
+    let answer = folder.join("answer");
+    let right = fs::read_to_string(&answer).unwrap();
     let (first, rows) = right.split_once('\n').unwrap();
     let grey = u8::from_str_radix(&rows[..2], 16).unwrap();
     // another grey than the library's, though one apart is within what is promised; towards 0, so that it stays a grey
     for moved in [1, 2] {
-        fs::write(&answers[1], format!("{first}\n{:02x}{}", grey - moved, &rows[2..])).unwrap();
-        let output = exact(&folder, &answers);
+        fs::write(&answer, format!("{first}\n{:02x}{}", grey - moved, &rows[2..])).unwrap();
+        let output = exact(&folder);
         let page = text(&output.stdout);
         assert_eq!(output.status.code(), Some(3), "moved by {moved}:\n{page}");
         assert!(page.contains("NOT AS PROMISED"));
     }
     let other_edges = right.replacen("00", "01", 1);
     for wrong in [&other_edges, "refused 06\n", first, ""] {
-        fs::write(&answers[1], wrong).unwrap();
-        let output = exact(&folder, &answers);
+        fs::write(&answer, wrong).unwrap();
+        let output = exact(&folder);
         assert_eq!((output.status.code(), text(&output.stdout).as_str()), (Some(2), ""), "{wrong:?}");
         assert_eq!(text(&output.stderr).lines().count(), 1);
     }
-    assert_eq!(exact(&folder, &answers[..2]).status.code(), Some(2));
+    // no answer, and one more than there is to be
+    for words in [&[][..], &["answer", "answer"]] {
+        let mut exact = Command::new(env!("CARGO_BIN_EXE_exact"));
+        let output = exact.arg("a letter").arg(folder.join("frame")).args(words).output().unwrap();
+        assert_eq!(output.status.code(), Some(2));
+    }
 }
 
 /// A placement that keeps the frame's outline on its tile, smaller, askew and with fractions to round, and its words.
@@ -182,6 +181,44 @@ fn placed_frames() {
         [&["--scale"][..], &["--scale", "x"], &["--scale", "1", "1"], &["--shift", "1"], &TURN_WORDS[..6], &["--else"]]
     {
         let output = placed(words, FRAME);
+        assert_eq!((output.status.code(), text(&output.stdout).as_str()), (Some(2), ""), "{words:?}");
+    }
+}
+
+/// What is printed of the frame's outline as placed at every level, by the reference: a first line, and the rows of all answers.
+fn expected_at_every_level(placement: Placement) -> String {
+    let answers: Vec<String> = (0..3).map(|level| expected(placement, level)).collect();
+    let (first, _) = answers[0].split_once('\n').unwrap();
+    let rows: String = answers.iter().map(|answer| answer.split_once('\n').unwrap().1).collect();
+    format!("{first}\n{rows}")
+}
+
+#[test]
+fn frames_at_every_level() {
+    let levels = |words: &[&str], frame: &str| reads(env!("CARGO_BIN_EXE_levels"), words, frame);
+    let printed = |words: &[&str], frame: &str| {
+        let output = levels(words, frame);
+        assert!(output.status.success() && output.stderr.is_empty(), "{words:?}: {}", text(&output.stderr));
+        text(&output.stdout)
+    };
+    assert_eq!(printed(&[], FRAME), expected_at_every_level(Placement::None));
+    assert_eq!(printed(&["--shift", "7.5", "-8"], FRAME), expected_at_every_level(Placement::Shift(7.5, -8.0)));
+    assert_eq!(printed(&TURN_WORDS, FRAME), expected_at_every_level(TURN));
+    // the frame's own level makes no difference, even where the tile has none such
+    for level in ["00", "01", "03", "ff"] {
+        let frame = FRAME.replacen("0402", &format!("04{level}"), 1);
+        assert_eq!(printed(&[], &frame), expected_at_every_level(Placement::None));
+    }
+    for (words, frame, refused) in [
+        (&[][..], "ff00\n", "refused 01\n"),
+        (&[], "0201", "refused 11\n"),
+        (&["--scale", "1.3"], "0201\n", "refused 12\n"),
+        (&["--scale", "-1"], FRAME, "refused 06\n"),
+    ] {
+        assert_eq!(printed(words, frame), refused, "{words:?}, {frame:?}");
+    }
+    for words in [&["--scale"][..], &["--scale", "1", "1"], &["--else"], &["1"]] {
+        let output = levels(words, FRAME);
         assert_eq!((output.status.code(), text(&output.stdout).as_str()), (Some(2), ""), "{words:?}");
     }
 }
@@ -241,24 +278,20 @@ fn frames_in_tiles() {
 
 #[test]
 fn page_of_a_placed_letter() {
-    let (folder, answers) = folder("placed", FRAME);
-    for (level, answer) in answers.iter().enumerate() {
-        fs::write(answer, expected(TURN, level as u32)).unwrap();
-    }
-    let page = |words: &[&str]| exact_placed(&folder, words, &answers);
+    let folder = folder("placed", FRAME);
+    fs::write(folder.join("answer"), expected(TURN, 2)).unwrap();
+    let page = |words: &[&str]| exact_placed(&folder, words);
     let output = page(&TURN_WORDS);
     let placed = text(&output.stdout);
     assert!(output.status.success(), "{placed}{}", text(&output.stderr));
     assert!(placed.contains("Every miss is within its bound") && placed.contains("of the outline as placed"));
-    // answers to the outline otherwise placed, and a placement without its number
+    // an answer to the outline otherwise placed, and a placement without its number
     for words in [&[][..], &["--scale", "1"], &["--scale"]] {
         assert_eq!(page(words).status.code(), Some(2), "{words:?}");
     }
     // A turn keeps the hand, and a mirror changes it.
     assert!(!placed.contains("anticlockwise"));
-    for (level, answer) in answers.iter().enumerate() {
-        fs::write(answer, expected(Placement::Turn([-1.0, 0.0, 1024.0, 0.0, 1.0, 0.0]), level as u32)).unwrap();
-    }
+    fs::write(folder.join("answer"), expected(Placement::Turn([-1.0, 0.0, 1024.0, 0.0, 1.0, 0.0]), 2)).unwrap();
     let output = page(&["--turn", "-1", "0", "1024", "0", "1", "0"]);
     let mirrored = text(&output.stdout);
     assert!(output.status.success(), "{mirrored}{}", text(&output.stderr));

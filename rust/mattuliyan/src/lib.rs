@@ -3,7 +3,7 @@
 //! A tile is a square of 1, 2, 4, 8, 16, 32 or 64 pixels a side, a step is 1/256 pixel, x grows to the right and y downwards. An outline is
 //! closed contours of whole points, letters clockwise as seen on the page, the holes in them anticlockwise, or all of it the other way round:
 //! every figure then has the opposite sign, and every grey is the same. [`build`] turns it into a table of Haar coefficients, from which
-//! [`figures`], [`greys`] and [`cell`] draw any level: 2^level pixels across, from 1 to the side.
+//! [`figures`], [`greys`] and [`cell`] draw any level: 2^level pixels across, from 1 to the side. [`pyramid`] draws the greys of every level at once.
 //!
 //! ```
 //! use std::error::Error;
@@ -243,6 +243,13 @@ mod c {
             table_length: usize,
             picture: *mut u8,
             picture_length: usize,
+        ) -> u32;
+        pub fn mattuliyan_pyramid(
+            side: u32,
+            table: *const i64,
+            table_length: usize,
+            pictures: *mut u8,
+            pictures_length: usize,
         ) -> u32;
         pub fn mattuliyan_cell(
             side: u32,
@@ -510,6 +517,16 @@ pub fn greys(side: u32, level: u32, table: &[i64], picture: &mut [u8]) -> Result
     // SAFETY: as in `build`.
     let number =
         unsafe { c::mattuliyan_greys(side, level, table.as_ptr(), table.len(), picture.as_mut_ptr(), picture.len()) };
+    answer(number, ())
+}
+
+/// Draws the greys of every level, from 0 to the depth, one picture after the other: each is what [`greys`] draws of its level.
+///
+/// There are 1 + 4 + .. + 4^depth places: level 0 has the first, level 1 the next four, and so on. It takes less time than a call for each level.
+pub fn pyramid(side: u32, table: &[i64], pictures: &mut [u8]) -> Result<(), Refusal> {
+    // SAFETY: as in `build`.
+    let number =
+        unsafe { c::mattuliyan_pyramid(side, table.as_ptr(), table.len(), pictures.as_mut_ptr(), pictures.len()) };
     answer(number, ())
 }
 

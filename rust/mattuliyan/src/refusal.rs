@@ -15,7 +15,8 @@ macro_rules! questions {
         ///
         /// [`build`](crate::build) asks 1, 2, 4, 5, 3, 6; [`build_placed`](crate::build_placed) 1, 2, 4, 5, 3, 12, 6;
         /// [`put`](crate::put) 1, 2, 4, 5, 3, 12, 6, 9; [`take`](crate::take) 1, 2, 4, 5, 3, 12, 6, 13, 9;
-        /// [`figures`](crate::figures) and [`greys`](crate::greys) 1, 2, 7, 8, 9; [`cell`](crate::cell) 1, 2, 7, 10, 9.
+        /// [`figures`](crate::figures) and [`greys`](crate::greys) 1, 2, 7, 8, 9; [`cell`](crate::cell) 1, 2, 7, 10, 9;
+        /// [`pyramid`](crate::pyramid) 1, 2, 8, 9.
         /// On a sheet, 14 and 15 come in the place of 1: [`build_on_sheet`](crate::build_on_sheet) asks 14, 15, 2, 4, 5, 3, 12, 6;
         /// [`put_on_sheet`](crate::put_on_sheet) 14, 15, 2, 4, 5, 3, 12, 6, 9; [`take_on_sheet`](crate::take_on_sheet) 14, 15, 2, 4, 5, 3,
         /// 12, 6, 13, 9. There the side is the tile's in question 2, and the sheet's in question 6.
@@ -39,7 +40,7 @@ questions! {
     5 "Is the counts' sum (with marks, the number of chords; for putting in, with the record's count) at most 1,024?"
     6 "Is every coordinate, as placed, from 0 to 256 × side (on a sheet, the sheet's)?"
     7 "Is the level at most the depth, the number of halvings from the side to 1?"
-    8 "Has the picture exactly 4^level places?"
+    8 "Has the picture exactly 4^level places (of all levels, are there exactly 1 + 4 + .. + 4^depth)?"
     9 "Is every entry of the table (for putting in and taking out, also of the table that would be left) from −2^40 to 2^40?"
     10 "Are both cell numbers below 2^level?"
     12 "Is every number of the placement a multiple of 1/65,536 in its range (factors from −2 to 2, offsets from −16,384 to \

@@ -160,7 +160,7 @@ int main(void) {
     const uint32_t counts[] = {3};
     const double placement[] = {254.5, -7.5, 0};
     int64_t table[] = {7, 7, 7, 7}, figures[] = {7, 7, 7, 7}, figure = 7;
-    uint8_t greys[] = {7, 7, 7, 7};
+    uint8_t greys[] = {7, 7, 7, 7}, pyramid[] = {7, 7, 7, 7, 7};
     uint32_t edges = 7, number;
 
     number = mattuliyan_build(2, points, 5, counts, 1, table, 4, &edges);
@@ -182,6 +182,12 @@ int main(void) {
     printf("\n%" PRIu32 " %d\n", number, greys[0]);
     number = mattuliyan_greys(2, 1, table, 4, greys, 4);
     printf("%" PRIu32 " %d %d %d %d\n", number, greys[0], greys[1], greys[2], greys[3]);
+    number = mattuliyan_pyramid(2, table, 4, pyramid, 4);
+    printf("%" PRIu32 " %d\n", number, pyramid[0]);
+    number = mattuliyan_pyramid(2, table, 4, pyramid, 5);
+    printf("%" PRIu32, number);
+    for (int i = 0; i < 5; i++) printf(" %d", pyramid[i]);
+    printf("\n");
     number = mattuliyan_cell(2, 1, 1, 2, table, 4, &figure);
     printf("%" PRIu32 " %" PRId64 "\n", number, figure);
     number = mattuliyan_cell(2, 1, 1, 0, table, 4, &figure);

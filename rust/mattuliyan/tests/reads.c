@@ -35,6 +35,11 @@ static uint32_t greys(int64_t *table) {
     return mattuliyan_greys(SIDE, LEVEL, table, ENTRIES, picture, ENTRIES);
 }
 
+static uint32_t pyramid(int64_t *table) {
+    static uint8_t pictures[(4 * ENTRIES - 1) / 3];
+    return mattuliyan_pyramid(SIDE, table, ENTRIES, pictures, sizeof pictures);
+}
+
 static uint32_t cell(int64_t *table) {
     int64_t figure;
     return mattuliyan_cell(SIDE, LEVEL, 5, 9, table, ENTRIES, &figure);
@@ -119,6 +124,7 @@ int main(void) {
     } calls[] = {
         {"figures", figures, ENTRIES},
         {"greys", greys, ENTRIES},
+        {"pyramid", pyramid, ENTRIES},
         {"cell", cell, ENTRIES},
         {"put", put, ENTRIES},
         {"take", take, ENTRIES},

@@ -144,7 +144,7 @@ pub use curve::{build_curves, chords, put_curves, take_curves, Curve, Curves, Si
 pub use edge::{Bend, Cell, Edge, Fraction, Profile};
 pub use exact::{Exact, Miss};
 pub use frame::{frame, tile_program, Frame};
-pub use picture::{cell, figures, greys};
+pub use picture::{cell, figures, greys, pyramid};
 pub use placement::{placed, Placement};
 pub use questions::{Limits, Question};
 pub use rules::{Rules, Spec};

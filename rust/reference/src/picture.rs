@@ -1,6 +1,6 @@
-//! Drawing a table: figures, greys and one cell.
+//! Drawing a table: figures, greys, the greys of every level, and one cell.
 
-use crate::questions::Given;
+use crate::questions::{depth, Given};
 use crate::rules::Rules;
 use crate::table::place;
 
@@ -16,7 +16,11 @@ pub fn figures(rules: &dyn Rules, side: u32, level: u32, table: &[i64], places: 
 fn worked(rules: &dyn Rules, side: u32, level: u32, table: &[i64], places: usize) -> Result<Vec<i64>, u8> {
     let given = Given { side, table, level, places, ..Given::default() };
     given.ask(&rules.picture(), rules)?;
+    Ok(drawn(rules, level, table))
+}
 
+/// The same of a table that has the level.
+fn drawn(rules: &dyn Rules, level: u32, table: &[i64]) -> Vec<i64> {
     // The whole picture of each level is made from that of the level above.
     let mut picture = vec![table[0]];
     for j in 0..level {
@@ -31,7 +35,7 @@ fn worked(rules: &dyn Rules, side: u32, level: u32, table: &[i64], places: usize
         }
         picture = finer;
     }
-    Ok(picture)
+    picture
 }
 
 /// The greys of a level, row by row from the top left, or the refusal's
@@ -39,6 +43,17 @@ fn worked(rules: &dyn Rules, side: u32, level: u32, table: &[i64], places: usize
 pub fn greys(rules: &dyn Rules, side: u32, level: u32, table: &[i64], places: usize) -> Result<Vec<u8>, u8> {
     let worked = worked(rules, side, level, table, places)?;
     Ok(worked.into_iter().map(|figure| rules.grey_of_cell(figure, table[0], side)).collect())
+}
+
+/// The greys of every level from 0 to the depth, one picture after the other,
+/// or the refusal's number. `places` is how many places the caller's list has.
+/// 01 has no such call: each picture is 01's, and the questions are 01's too, but
+/// for the level's, and question 8 is about all of them together.
+pub fn pyramid(rules: &dyn Rules, side: u32, table: &[i64], places: usize) -> Result<Vec<u8>, u8> {
+    let given = Given { side, table, places, every_level: true, ..Given::default() };
+    given.ask(&rules.every_level(), rules)?;
+    let figures = rules.levels(depth(side)).into_iter().flat_map(|level| drawn(rules, level, table));
+    Ok(figures.map(|figure| rules.grey_of_cell(figure, table[0], side)).collect())
 }
 
 /// The figure of one cell, worked on its own from the root down through the

@@ -35,7 +35,8 @@ pub enum Question {
     Coordinates = 6,
     /// Is the level at most the depth?
     Level = 7,
-    /// Has the picture exactly 4^level places?
+    /// Has the picture exactly 4^level places? Of every level in one list, has it
+    /// exactly 1 + 4 + .. + 4^depth?
     Places = 8,
     /// Is every entry of the table from −2^40 to 2^40? For putting in and taking
     /// out, of the table before the call and of the one it would leave?
@@ -119,6 +120,8 @@ pub(crate) struct Given<'a> {
     pub marks: Option<&'a [u8]>,
     pub placement: Placement,
     pub level: u32,
+    /// Of a call that draws every level, and not one.
+    pub every_level: bool,
     pub places: usize,
     pub cell: (u32, u32),
     pub correction: Option<Correction>,
@@ -175,6 +178,7 @@ impl Given<'_> {
                 }
             }
             Question::Level => self.level <= depth(self.side),
+            Question::Places if self.every_level => rules.all_places(depth(self.side)) == self.places as u128,
             Question::Places => power(4, self.level) == Some(self.places as u128),
             Question::Entries => {
                 let largest = limits.largest_entry;

@@ -24,6 +24,22 @@ pub trait Rules {
         vec![Side, TableLength, Level, Places, Entries]
     }
 
+    /// The questions for the greys of every level, in order: 1, 2, 8, 9.
+    fn every_level(&self) -> Vec<Question> {
+        use Question::*;
+        vec![Side, TableLength, Places, Entries]
+    }
+
+    /// The levels of a tile of this depth, in the order of their pictures.
+    fn levels(&self, depth: u32) -> Vec<u32> {
+        (0..=depth).collect()
+    }
+
+    /// How many places they have.
+    fn all_places(&self, depth: u32) -> u128 {
+        (0..=depth).map(|level| 1 << (2 * level)).sum()
+    }
+
     /// The questions for one cell, in order: 1, 2, 7, 10, 9.
     fn one_cell(&self) -> Vec<Question> {
         use Question::*;

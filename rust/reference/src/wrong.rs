@@ -119,6 +119,16 @@ pub fn of_magnitude() -> Vec<(&'static str, Box<dyn Rules>)> {
     ]
 }
 
+/// All variants of how every level is drawn in one call, each with a short name.
+/// Only [`pyramid`](crate::pyramid) can tell them.
+pub fn of_every_level() -> Vec<(&'static str, Box<dyn Rules>)> {
+    vec![
+        ("the deepest level first", Box::new(DeepestFirst)),
+        ("places for the deepest level alone", Box::new(DeepestAlone)),
+        ("question 9 asked before question 8 of every level", Box::new(EntriesBeforePlaces)),
+    ]
+}
+
 /// All variants of 02's P5, each with a short name. They have a list of their own
 /// because only the calls on a sheet can tell them.
 pub fn of_sheet() -> Vec<(&'static str, Box<dyn Rules>)> {
@@ -291,6 +301,36 @@ pub struct OneUnitMore;
 impl Rules for OneUnitMore {
     fn limits(&self) -> Limits {
         Limits { largest_entry: Limits::SPEC.largest_entry + 1, ..Limits::SPEC }
+    }
+}
+
+/// Wrong: of all levels, the deepest is drawn first and level 0 last.
+pub struct DeepestFirst;
+
+impl Rules for DeepestFirst {
+    fn levels(&self, depth: u32) -> Vec<u32> {
+        (0..=depth).rev().collect()
+    }
+}
+
+/// Wrong: a list with places for the deepest level alone is taken for one with
+/// places for all.
+pub struct DeepestAlone;
+
+impl Rules for DeepestAlone {
+    fn all_places(&self, depth: u32) -> u128 {
+        1 << (2 * depth)
+    }
+}
+
+/// Wrong: where every level is drawn, question 9 is asked before question 8, not
+/// after it.
+pub struct EntriesBeforePlaces;
+
+impl Rules for EntriesBeforePlaces {
+    fn every_level(&self) -> Vec<Question> {
+        use Question::*;
+        vec![Side, TableLength, Entries, Places]
     }
 }
 

@@ -1,20 +1,20 @@
 //! A page that sets what the tile program draws of a frame beside the exact areas, cell by cell. `draw --exact` calls it.
 //!
-//! The greys are the tile program's own answers, one for each level, or those of `placed` where the outline is placed first. They print no
-//! areas: these are the library's, which is the same code, and whose greys must be the program's. The exact areas are the reference's, in
+//! The greys of the frame's own level are the tile program's answer, or that of `placed` where the outline is placed first. It prints no areas and no
+//! other level: these are the library's, which is the same code, and whose greys must be the program's. The exact areas are the reference's, in
 //! exact fractions, and every comparison is made with these; decimals are for the page alone.
 use compare::calls::Difference;
-use compare::outlines::Outline;
-use compare::{demand3, grouped, placements};
+use compare::outlines::{self, Outline};
+use compare::{demand3, grouped, placements, printing};
+use mattuliyan::Refusal;
 use reference::{Exact, Fraction, Placement, Spec};
 use std::ffi::{OsStr, OsString};
 use std::fmt::Write as _;
 use std::io::{ErrorKind, Write as _};
 use std::process::ExitCode;
 
-const USAGE: &str = "usage: exact NAME FRAME [--shift X Y | --scale S | --turn A B C D E F] ANSWER...
-NAME is what the page calls the frame; FRAME is its text; the ANSWERs are what the tile program answers to it at level 0, 1 and so on to the depth,
-or `placed` where there is a placement";
+const USAGE: &str = "usage: exact NAME FRAME [--shift X Y | --scale S | --turn A B C D E F] ANSWER
+NAME is what the page calls the frame; FRAME is its text; ANSWER is what the tile program answers to it, or `placed` where there is a placement";
 
 /// Exit status where something on the page is not as promised.
 const NOT_AS_PROMISED: u8 = 3;
@@ -29,10 +29,8 @@ struct Level {
     level: u32,
     /// 4^level times the drawn areas
     figures: Vec<i64>,
-    /// as the tile program printed them
+    /// of the frame's own level as the tile program printed them, of others as the library draws them
     greys: Vec<u8>,
-    /// as the library draws them
-    library_greys: Vec<u8>,
     exact: Vec<Exact>,
 }
 
@@ -64,11 +62,11 @@ fn main() -> ExitCode {
         [name, frame, rest @ ..] => placements::read(rest).map(|read| (name, frame, read)),
         _ => None,
     };
-    let Some((name, frame, (placement, answers))) = read else {
+    let Some((name, frame, (placement, [answer]))) = read else {
         eprintln!("{USAGE}");
         return ExitCode::from(2);
     };
-    let problem = match page(&name.to_string_lossy(), frame, placement, answers) {
+    let problem = match page(&name.to_string_lossy(), frame, placement, answer) {
         Err(problem) => problem,
         Ok((page, holds)) => match std::io::stdout().write_all(page.as_bytes()) {
             Ok(()) if holds => return ExitCode::SUCCESS,
@@ -81,61 +79,56 @@ fn main() -> ExitCode {
     ExitCode::from(2)
 }
 
-fn page(name: &str, frame: &OsStr, placement: Placement, answers: &[OsString]) -> Result<(String, bool), String> {
+fn page(name: &str, frame: &OsStr, placement: Placement, answer: &OsStr) -> Result<(String, bool), String> {
     let read = |path: &OsStr| std::fs::read(path).map_err(|error| format!("{}: {error}", path.display()));
     let frame = reference::frame(&read(frame)?).map_err(|number| format!("{name}: refused {number:02}"))?;
+    let refused = |refusal: Refusal| format!("{name}: {refusal}");
     let mut table = vec![0; (frame.side as usize).pow(2)];
     let lent = placements::for_library(placement);
-    mattuliyan::build_placed(frame.side, &frame.points, &frame.counts, lent, &mut table)
-        .map_err(|refusal| format!("{name}: {refusal}"))?;
+    mattuliyan::build_placed(frame.side, &frame.points, &frame.counts, lent, &mut table).map_err(refused)?;
     let points = reference::placed(&Spec, placement, &frame.points);
     let outline = Outline { side: frame.side, points, counts: frame.counts };
+    let mut pictures = vec![0; outlines::all_places(frame.side)];
+    mattuliyan::pyramid(frame.side, &table, &mut pictures).map_err(refused)?;
     let mut levels = Vec::new();
-    for (level, path) in (0..=outline.depth()).zip(answers) {
-        let answer = String::from_utf8(read(path)?).map_err(|error| format!("{}: {error}", path.display()))?;
-        levels.push(
-            drawn(&outline, level, &table, &answer).map_err(|problem| format!("{name}, level {level}: {problem}"))?,
-        );
+    for (level, greys) in outlines::each_level(&pictures) {
+        let mut figures = vec![0; greys.len()];
+        mattuliyan::figures(frame.side, level, &table, &mut figures).map_err(refused)?;
+        let exact = reference::exact_areas(frame.side, &outline.points, &outline.counts, level);
+        levels.push(Level { level, figures, greys: greys.to_vec(), exact });
     }
-    if levels.len() != outline.depth() as usize + 1 {
-        return Err(format!("{name}: an answer is wanted for each level of the tile"));
-    }
-    let own = levels.get(frame.level as usize).ok_or(format!("{name}: its tile has no level {}", frame.level))?;
+    let own = levels.get_mut(frame.level as usize).ok_or(format!("{name}: its tile has no level {}", frame.level))?;
+    let answer = String::from_utf8(read(answer)?).map_err(|error| format!("{}: {error}", answer.display()))?;
+    let printed = printed(&outline, own, table[0], &answer).map_err(|problem| format!("{name}: {problem}"))?;
+    let another = printed != own.greys;
+    own.greys = printed;
     let area = reference::signed_area(&outline.points, &outline.counts);
-    let (summary, holds) = summary(&outline, area, &levels);
-    let page = format!("{}{summary}{}", heading(name, placement, &outline, area), cells(&outline, own));
-    Ok((page, holds))
+    let (summary, holds) = summary(&outline, area, &levels, another);
+    let cells = cells(&outline, &levels[frame.level as usize]);
+    Ok((format!("{}{summary}{cells}", heading(name, placement, &outline, area)), holds))
 }
 
-/// A level of the tile: its figures by the library, its greys by the program's answer.
-fn drawn(outline: &Outline, level: u32, table: &[i64], answer: &str) -> Result<Level, String> {
-    let places = 1 << (2 * level);
-    let mut figures = vec![0; places];
-    let mut library_greys = vec![0; places];
-    mattuliyan::figures(outline.side, level, table, &mut figures)
-        .and_then(|()| mattuliyan::greys(outline.side, level, table, &mut library_greys))
-        .map_err(|refusal| refusal.to_string())?;
-    let mut lines = answer.lines();
-    let first = format!("{:04x}{:016x}", outline.edges(), table[0]);
-    if lines.next() != Some(&first) {
-        return Err(format!("the program's first line is not {first}"));
-    }
-    let digits: String = lines.collect();
+/// The greys of a level by the program's answer.
+fn printed(outline: &Outline, level: &Level, root: i64, answer: &str) -> Result<Vec<u8>, String> {
+    let first = printing::first_line(outline.edges(), root);
+    let Some(rows) = answer.strip_prefix(&first) else {
+        return Err(format!("the program's first line is not {}", first.trim_end()));
+    };
+    let digits: String = rows.lines().collect();
     let pairs: Result<Vec<u8>, _> =
         (0..digits.len() / 2).map(|i| u8::from_str_radix(&digits[2 * i..2 * i + 2], 16)).collect();
     let greys = pairs.map_err(|error| error.to_string())?;
-    if greys.len() != places {
-        return Err(format!("the program's answer has {} greys, not {places}", greys.len()));
+    if greys.len() != level.exact.len() {
+        return Err(format!("the program's answer has {} greys, not {}", greys.len(), level.exact.len()));
     }
-    let exact = reference::exact_areas(outline.side, &outline.points, &outline.counts, level);
-    Ok(Level { level, figures, greys, library_greys, exact })
+    Ok(greys)
 }
 
 fn heading(name: &str, placement: Placement, outline: &Outline, area: i64) -> String {
     let drawn_by = match placement {
         Placement::None => String::from(
-            "The greys are what the tile program printed. It prints no areas; these are from the proved library, which is the same
-code. ",
+            "The greys of the frame's own level are what the tile program printed. It prints no areas and no other level; these
+are from the proved library, which is the same code. ",
         ),
         _ => format!(
             "The greys and the drawn areas are from the proved library, of the outline as placed:
@@ -172,16 +165,12 @@ area's, never two.
     )
 }
 
-/// Does demand 3 hold of every level? The worst of each, on a line, and the verdict.
-fn summary(outline: &Outline, area: i64, levels: &[Level]) -> (String, bool) {
+/// Does demand 3 hold of every level? The worst of each, on a line, and the verdict. `another`: the program printed other greys than the library draws.
+fn summary(outline: &Outline, area: i64, levels: &[Level], another: bool) -> (String, bool) {
     let mut text =
         String::from("level   cells   greatest miss       bound    ratio   in column  row   greys one apart\n");
-    let mut wrong = None;
+    let mut wrong = another.then(|| Difference("the program's greys are not the library's".to_string()));
     for level in levels {
-        if level.greys != level.library_greys {
-            wrong =
-                wrong.or(Some(Difference(format!("level {}: the program's greys are not the library's", level.level))));
-        }
         match demand3::near(outline, level.level, area, &level.figures, &level.greys) {
             Err(difference) => wrong = wrong.or(Some(difference)),
             Ok(looked) => {
