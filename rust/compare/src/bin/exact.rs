@@ -128,7 +128,8 @@ fn heading(name: &str, placement: Placement, outline: &Outline, area: i64) -> St
     let drawn_by = match placement {
         Placement::None => String::from(
             "The greys of the frame's own level are what the tile program printed. It prints no areas and no other level; these
-are from the proved library, which is the same code. ",
+are from the proved library, which is the same code.
+",
         ),
         _ => format!(
             "The greys and the drawn areas are from the proved library, of the outline as placed:
