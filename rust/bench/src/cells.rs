@@ -1,7 +1,7 @@
 //! One cell, a thousand times, from one table: what the search behind question 9 takes, now and in a library that was made before.
 
-use crate::inputs::{Input, DEPTH, SIDE};
-use crate::library::{Library, ARCHIVE};
+use crate::inputs::{Input, Shape, DEPTH, SIDE};
+use crate::library::{Opened, ARCHIVE};
 use std::hint::black_box;
 use std::path::Path;
 
@@ -70,13 +70,13 @@ pub struct Calls {
 /// A letter's tables, whole and damaged, and the libraries.
 pub struct Cells {
     tables: [Vec<i64>; DAMAGES.len()],
-    now: Library,
-    before: Option<Library>,
+    now: Opened,
+    before: Option<Opened>,
 }
 
 impl Cells {
     pub fn new(before: Option<&Path>) -> Result<Cells, String> {
-        let outline = Input::Letter.outlines(1).remove(0);
+        let outline = Input::full(Shape::Letter).outlines(1).remove(0);
         let mut whole = vec![0; (SIDE * SIDE) as usize];
         mattuliyan::build(SIDE, &outline.points, &outline.counts, &mut whole)
             .map_err(|refusal| format!("building: {refusal}"))?;
@@ -85,8 +85,8 @@ impl Cells {
             damage.spoil(&mut table);
             table
         };
-        let now = Library::open(Path::new(ARCHIVE))?;
-        let before = before.map(Library::open).transpose()?;
+        let now = Opened::open(Path::new(ARCHIVE))?;
+        let before = before.map(Opened::open).transpose()?;
         Ok(Cells { tables: DAMAGES.map(table), now, before })
     }
 
@@ -117,7 +117,7 @@ impl Cells {
 }
 
 /// Every call's answer is looked at.
-fn call(library: &Library, table: &[i64], damage: Damage) -> Result<(), String> {
+fn call(library: &Opened, table: &[i64], damage: Damage) -> Result<(), String> {
     let (number, figure) = library.cell(SIDE, DEPTH, COLUMN, ROW, black_box(table));
     black_box(figure);
     if number == damage.number() {

@@ -1,12 +1,14 @@
 //! Exact instruction counts: the program runs itself under valgrind's callgrind, with one run of a case and with two. The
 //! difference is one run, whatever starting and preparing cost.
 
-use crate::cases::{Case, Work, CASES};
+use crate::cases::{Case, CASES};
 use crate::cells::{Calls, Cells, Damage, Version, DAMAGES};
 use crate::folder::Folder;
-use crate::inputs::{Input, INPUTS};
+use crate::growth;
+use crate::inputs::Input;
 use crate::profile::Profile;
 use crate::reads::{self, Reads};
+use crate::work::Work;
 use std::path::Path;
 use std::process::Command;
 use std::{env, fs};
@@ -21,14 +23,17 @@ const OUTLINE: &str = "outline";
 const CELLS: &str = "cells";
 
 impl Counted {
-    /// On the first outline.
-    pub fn outline(input: Input, case: Case) -> Counted {
-        Counted(vec![OUTLINE.into(), place(&INPUTS, input), place(&CASES, case)])
+    /// On the first outline, with the archive of an earlier library if the case wants one.
+    pub fn outline(input: Input, case: Case, archive: Option<&Path>) -> Counted {
+        Counted::with(vec![OUTLINE.into(), place(&growth::inputs(), input), place(&CASES, case)], archive)
     }
 
     /// Of the library as it is now, or of the archive.
     pub fn cells(damage: Damage, archive: Option<&Path>) -> Counted {
-        let mut words = vec![CELLS.into(), place(&DAMAGES, damage)];
+        Counted::with(vec![CELLS.into(), place(&DAMAGES, damage)], archive)
+    }
+
+    fn with(mut words: Vec<String>, archive: Option<&Path>) -> Counted {
         words.extend(archive.map(|archive| archive.display().to_string()));
         Counted(words)
     }
@@ -36,10 +41,10 @@ impl Counted {
     /// Prepares the case that the words name, and runs it so many times.
     fn run(words: &[&str], times: usize) -> Result<(), String> {
         match words {
-            [OUTLINE, input, case] => {
-                let input = at(&INPUTS, input).ok_or("no such input")?;
+            [OUTLINE, input, case, archive @ ..] if archive.len() <= 1 => {
+                let input = at(&growth::inputs(), input).ok_or("no such input")?;
                 let case = at(&CASES, case).ok_or("no such case")?;
-                let mut work = Work::new(input, 1)?;
+                let mut work = Work::new(input, 1, archive.first().map(Path::new))?;
                 (0..times).try_for_each(|_| work.run_all(case))
             }
             [CELLS, damage, archive @ ..] if archive.len() <= 1 => {
@@ -119,7 +124,9 @@ fn at<T: Copy>(all: &[T], place: &str) -> Option<T> {
 mod tests {
     use super::*;
 
-    use crate::library::with_another;
+    use crate::cases::Step;
+    use crate::inputs::KINDS;
+    use crate::library::{with_another, ARCHIVE};
 
     fn run(times: &str, Counted(words): Counted) -> Result<(), String> {
         run_counted(&[vec![times.to_string()], words].concat())
@@ -130,14 +137,17 @@ mod tests {
         fn is_found<T: Copy + PartialEq>(all: &[T]) -> bool {
             all.iter().all(|&each| at(all, &place(all, each)) == Some(each))
         }
-        assert!(is_found(&INPUTS) && is_found(&CASES) && is_found(&DAMAGES));
+        assert!(is_found(&growth::inputs()) && is_found(&CASES) && is_found(&DAMAGES));
     }
 
     #[test]
     fn a_case_is_found_by_its_words() {
-        for input in INPUTS {
-            assert_eq!(run("2", Counted::outline(input, Case::Build)), Ok(()));
+        for input in growth::inputs() {
+            assert_eq!(run("2", Counted::outline(input, Case::Build, None)), Ok(()));
         }
+        let before = Case::Before(Step::BuildAndDrawAll);
+        assert_eq!(run("2", Counted::outline(KINDS[1], before, Some(Path::new(ARCHIVE)))), Ok(()));
+        assert!(run("1", Counted::outline(KINDS[1], before, None)).is_err());
         for damage in DAMAGES {
             assert_eq!(run("2", Counted::cells(damage, None)), Ok(()));
             // a library whose answers are not those that are expected
@@ -147,14 +157,16 @@ mod tests {
 
     #[test]
     fn other_words_are_refused() {
-        let past_all = CASES.len().to_string();
-        let archive = crate::library::ARCHIVE;
-        let refused: [&[&str]; 10] = [
+        let (past_inputs, past_cases) = (growth::inputs().len().to_string(), CASES.len().to_string());
+        let archive = ARCHIVE;
+        let refused: [&[&str]; 12] = [
             &[],
             &["1"],
             &["x", OUTLINE, "0", "0"],
-            &["1", OUTLINE, "2", "0"],
-            &["1", OUTLINE, "0", &past_all],
+            &["1", OUTLINE, &past_inputs, "0"],
+            &["1", OUTLINE, "0", &past_cases],
+            &["1", OUTLINE, "0", "0", "no archive"],
+            &["1", OUTLINE, "0", "0", archive, archive],
             &["1", OUTLINE, "0"],
             &["1", CELLS],
             &["1", CELLS, "3"],

@@ -1,94 +1,208 @@
-//! The outlines that are measured, of two kinds: the same at each run on one platform, on a tile of side 64, with the most edges that are
-//! accepted.
+//! The outlines that are measured, of a few kinds: the same at each run on one platform.
 
-/// The tile's side in pixels, and its levels below the root.
+/// The side of the tile, in pixels, and the edges of each outline where nothing else is said: the most that are accepted.
 pub const SIDE: u32 = 64;
-pub const DEPTH: u32 = 6;
+pub const EDGES: u32 = 1024;
 
-/// The most edges that an outline may have.
-pub const EDGES: usize = 1024;
+/// The levels of that tile below the root.
+pub const DEPTH: u32 = SIDE.trailing_zeros();
 
 /// How many outlines of each kind are drawn in turn. A processor that draws one alone over and over learns its branches by
 /// heart, and short work then looks up to twice as fast as it is on letters that differ.
 pub const VARIANTS: usize = 16;
 
 /// Coordinates count steps of 1/256 pixel.
-const STEPS_PER_PIXEL: f64 = 256.0;
+pub const STEPS_PER_PIXEL: u32 = 256;
 
-/// The greatest coordinate.
-pub const GREATEST: u64 = 256 * SIDE as u64;
-
-/// x and y of each point in turn, and how many points each contour has.
+/// x and y of each point in turn, and how many points each contour has, on a tile of this side.
 pub struct Outline {
+    pub side: u32,
     pub points: Vec<i64>,
     pub counts: Vec<u32>,
 }
 
-#[derive(Clone, Copy, PartialEq, Debug)]
-pub enum Input {
-    Letter,
-    Random,
+impl Outline {
+    /// The levels of its tile below the root.
+    pub fn depth(&self) -> u32 {
+        self.side.trailing_zeros()
+    }
+
+    pub fn edges(&self) -> u32 {
+        self.counts.iter().sum()
+    }
 }
 
-pub const INPUTS: [Input; 2] = [Input::Letter, Input::Random];
+#[derive(Clone, Copy, PartialEq, Debug)]
+pub enum Shape {
+    Letter,
+    Random,
+    Traced,
+    /// A walk in edges of so many steps.
+    Walk(u32),
+}
+
+/// Outlines of a shape, on a tile of this side, with so many edges each.
+#[derive(Clone, Copy, PartialEq, Debug)]
+pub struct Input {
+    pub shape: Shape,
+    pub side: u32,
+    pub edges: u32,
+}
+
+/// The kinds that have a table of their own.
+pub const KINDS: [Input; 3] = [Input::full(Shape::Letter), Input::full(Shape::Random), Input::full(Shape::Traced)];
 
 impl Input {
+    pub const fn full(shape: Shape) -> Input {
+        Input { shape, side: SIDE, edges: EDGES }
+    }
+
     pub fn name(self) -> &'static str {
-        match self {
-            Input::Letter => "Letters",
-            Input::Random => "Random edges",
+        match self.shape {
+            Shape::Letter => "Letters",
+            Shape::Random => "Random edges",
+            Shape::Traced => "Level and upright edges",
+            Shape::Walk(_) => "Walks",
         }
     }
 
-    pub fn about(self) -> &'static str {
-        match self {
-            Input::Letter => {
-                "Each a rough o: a wavy outer contour and its counter, in edges of about half a pixel."
+    pub fn about(self) -> String {
+        match self.shape {
+            Shape::Letter => {
+                "Each a rough o: a wavy outer contour and its counter, in edges of about half a pixel.".into()
             }
-            Input::Random => {
-                "Each one contour through points all over the tile: long edges that cross one another, unlike any letter."
-            }
+            Shape::Random => "Each one contour through points all over the tile: long edges that cross one another, unlike \
+                              any letter."
+                .into(),
+            Shape::Traced => format!(
+                "Each the same wavy o, as a tracer writes it that follows the borders between the black and the white dots \
+                 of a scan, {} dots to a pixel: a staircase of edges of a dot to about half a pixel, by turns level and \
+                 upright.",
+                STEPS_PER_PIXEL / STEPS_PER_DOT
+            ),
+            Shape::Walk(_) => "Each one contour, all of whose edges but the last have one length, in directions by chance."
+                .into(),
         }
     }
 
     /// The outlines of this kind that are drawn in turn, or the first few of them.
     pub fn outlines(self, count: usize) -> Vec<Outline> {
-        let make = match self {
-            Input::Letter => letter,
-            Input::Random => random,
-        };
-        (0..count as u64).map(|variant| make(Numbers::of(variant))).collect()
+        (0..count as u64).map(|variant| self.outline(Numbers::of(variant))).collect()
+    }
+
+    fn outline(self, mut numbers: Numbers) -> Outline {
+        let Input { shape, side, edges } = self;
+        match shape {
+            Shape::Letter => o(side, OUTER * edges / PARTS, edges, |ring, points| {
+                points.extend(ring.points(LETTER_ROUGHNESS, &mut numbers).into_iter().flatten())
+            }),
+            Shape::Traced => o(side, OUTER * edges / PARTS, edges, |ring, points| {
+                points.extend(staircase(&ring.halved().points(SCAN_ROUGHNESS, &mut numbers)))
+            }),
+            Shape::Random => {
+                let greatest = u64::from(STEPS_PER_PIXEL * side);
+                let points = (0..2 * edges).map(|_| numbers.up_to(greatest) as i64).collect();
+                Outline { side, points, counts: vec![edges] }
+            }
+            Shape::Walk(length) => {
+                Outline { side, points: walk(side, edges, length, &mut numbers), counts: vec![edges] }
+            }
+        }
     }
 }
 
-/// An o with a rough border. Each contour goes round the middle in equal angles, so that it does not cross itself, and
-/// the two stay apart: the winding is 1 in the ink and 0 elsewhere, where all ways of filling agree.
-fn letter(mut numbers: Numbers) -> Outline {
+/// An o has this share of its edges in the outer contour: as many eighths.
+const OUTER: u32 = 5;
+const PARTS: u32 = 8;
+
+/// The radii of its contours and the height of their waves, of which each has five, in pixels of a tile of side 64. The contours
+/// stay apart.
+const OUTER_RADIUS: f64 = 26.0;
+const INNER_RADIUS: f64 = 14.0;
+const WAVE: f64 = 2.0;
+const WAVES: f64 = 5.0;
+
+/// How far a radius is off, either way, in such pixels: a letter's, so that its edges go in all directions; and a scan's, about
+/// two dots.
+const LETTER_ROUGHNESS: f64 = 0.5;
+const SCAN_ROUGHNESS: f64 = 0.125;
+
+/// The width of a dot of the scan: coordinates of a traced o are multiples of it.
+const STEPS_PER_DOT: u32 = 16;
+
+/// An o with a border that is made contour by contour. Each goes round the middle in equal angles, the outer one clockwise, so that it
+/// does not cross itself: the winding is 1 in the ink and 0 elsewhere, where all ways of filling agree.
+fn o(side: u32, outer: u32, edges: u32, mut contour: impl FnMut(Ring, &mut Vec<i64>)) -> Outline {
     let mut points = Vec::new();
-    ring(640, 26.0, 1.0, &mut numbers, &mut points);
-    ring(384, 14.0, -1.0, &mut numbers, &mut points);
-    Outline { points, counts: vec![640, 384] }
+    let counts = vec![outer, edges - outer];
+    contour(Ring { side, count: counts[0], radius: OUTER_RADIUS, turn: 1.0 }, &mut points);
+    contour(Ring { side, count: counts[1], radius: INNER_RADIUS, turn: -1.0 }, &mut points);
+    Outline { side, points, counts }
 }
 
-/// A contour of so many points around the middle of the tile, clockwise as seen on the page if `turn` is 1, and
-/// anticlockwise if it is -1. Its radius, in pixels, has five slow waves and is rough by half a pixel either way.
-fn ring(count: usize, radius: f64, turn: f64, numbers: &mut Numbers, points: &mut Vec<i64>) {
-    const WAVES: f64 = 5.0;
-    const WAVE: f64 = 2.0;
-    const ROUGHNESS: f64 = 0.5;
-    let middle = f64::from(SIDE) / 2.0;
-    for k in 0..count {
-        let angle = turn * std::f64::consts::TAU * k as f64 / count as f64;
-        let r = radius + WAVE * (WAVES * angle).sin() + ROUGHNESS * numbers.either_way();
-        // y grows downwards, so that a growing angle goes clockwise
-        points.push(((middle + r * angle.cos()) * STEPS_PER_PIXEL).round() as i64);
-        points.push(((middle + r * angle.sin()) * STEPS_PER_PIXEL).round() as i64);
+/// So many places around the middle of the tile, clockwise as seen on the page if `turn` is 1, and anticlockwise if it is -1.
+struct Ring {
+    side: u32,
+    count: u32,
+    radius: f64,
+    turn: f64,
+}
+
+impl Ring {
+    /// Half as many places: each has two edges of a staircase.
+    fn halved(self) -> Ring {
+        Ring { count: self.count / 2, ..self }
+    }
+
+    fn points(&self, roughness: f64, numbers: &mut Numbers) -> Vec<[i64; 2]> {
+        let middle = f64::from(self.side) / 2.0;
+        let scale = f64::from(self.side) / f64::from(SIDE);
+        let steps = |pixels: f64| (pixels * f64::from(STEPS_PER_PIXEL)).round() as i64;
+        let place = |k: u32| {
+            let angle = self.turn * std::f64::consts::TAU * f64::from(k) / f64::from(self.count);
+            let r = scale * (self.radius + WAVE * (WAVES * angle).sin() + roughness * numbers.either_way());
+            // y grows downwards, so that a growing angle goes clockwise
+            [steps(middle + r * angle.cos()), steps(middle + r * angle.sin())]
+        };
+        (0..self.count).map(place).collect()
     }
 }
 
-fn random(mut numbers: Numbers) -> Outline {
-    let points = (0..2 * EDGES).map(|_| numbers.up_to(GREATEST) as i64);
-    Outline { points: points.collect(), counts: vec![EDGES as u32] }
+/// Level and upright edges by turns, past all the places, rounded to dots. No edge is of length 0: where a place has the column or the row of the
+/// one before, it is moved by a dot.
+fn staircase(places: &[[i64; 2]]) -> Vec<i64> {
+    let dot = i64::from(STEPS_PER_DOT);
+    let rounded = |c: i64| (c + dot / 2).div_euclid(dot) * dot;
+    let mut dots: Vec<[i64; 2]> = places.iter().map(|place| place.map(rounded)).collect();
+    for k in 1..dots.len() {
+        // the last one is followed by the first
+        let (before, after) = (dots[k - 1], (k + 1 == dots.len()).then_some(dots[0]));
+        for axis in 0..2 {
+            let taken = |c: i64| c == before[axis] || after.is_some_and(|after| c == after[axis]);
+            let c = dots[k][axis];
+            dots[k][axis] =
+                [c, c + dot, c - dot].into_iter().find(|&c| !taken(c)).expect("two cannot take three places");
+        }
+    }
+    let next = dots.iter().cycle().skip(1);
+    dots.iter().zip(next).flat_map(|(&[x, y], &[after, _])| [x, y, after, y]).collect()
+}
+
+/// Each point in a direction by chance from the one before, where the tile has one; the first is in the middle.
+fn walk(side: u32, edges: u32, length: u32, numbers: &mut Numbers) -> Vec<i64> {
+    let greatest = i64::from(STEPS_PER_PIXEL * side);
+    let (mut x, mut y) = (greatest / 2, greatest / 2);
+    let mut points = vec![x, y];
+    while points.len() < 2 * edges as usize {
+        let (sin, cos) = (std::f64::consts::PI * numbers.either_way()).sin_cos();
+        let ahead = |c: i64, part: f64| c + (f64::from(length) * part).round() as i64;
+        let (after, below) = (ahead(x, cos), ahead(y, sin));
+        if [after, below].iter().all(|c| (0..=greatest).contains(c)) {
+            (x, y) = (after, below);
+            points.extend([x, y]);
+        }
+    }
+    points
 }
 
 /// Marsaglia's xorshift: enough for scattering points, and the same everywhere.
@@ -125,6 +239,19 @@ impl Numbers {
 mod tests {
     use super::*;
 
+    /// The edges of each contour in turn, as dx and dy.
+    fn edges(outline: &Outline) -> Vec<[i64; 2]> {
+        let mut rest = &outline.points[..];
+        let mut all = Vec::new();
+        for &count in &outline.counts {
+            let (contour, others) = rest.split_at(2 * count as usize);
+            let next = contour.chunks(2).cycle().skip(1);
+            all.extend(contour.chunks(2).zip(next).map(|(from, to)| [to[0] - from[0], to[1] - from[1]]));
+            rest = others;
+        }
+        all
+    }
+
     /// Twice the signed area: positive for ink.
     fn area(points: &[i64]) -> i64 {
         let n = points.len() / 2;
@@ -137,39 +264,68 @@ mod tests {
 
     #[test]
     fn outlines_have_all_their_edges_and_lie_on_the_tile() {
-        for input in INPUTS {
+        let small = [8, 16, 32].map(|side| Input { side, ..KINDS[0] });
+        let few = [64, 128, 512].map(|edges| Input { edges, ..KINDS[2] });
+        let walks = [64, 8192].map(|length| Input::full(Shape::Walk(length)));
+        for input in [&KINDS[..], &small, &few, &walks].concat() {
             for outline in input.outlines(VARIANTS) {
-                assert_eq!(outline.counts.iter().sum::<u32>() as usize, EDGES);
-                assert_eq!(outline.points.len(), 2 * EDGES);
-                assert!(outline.points.iter().all(|c| (0..=GREATEST as i64).contains(c)));
+                assert_eq!((outline.side, outline.edges()), (input.side, input.edges), "{input:?}");
+                assert_eq!(outline.points.len(), 2 * input.edges as usize, "{input:?}");
+                let greatest = i64::from(STEPS_PER_PIXEL * input.side);
+                assert!(outline.points.iter().all(|c| (0..=greatest).contains(c)), "{input:?}");
             }
         }
     }
 
     #[test]
     fn letters_are_ink_and_their_counters_are_not() {
-        for outline in Input::Letter.outlines(VARIANTS) {
-            let (outer, counter) = outline.points.split_at(2 * outline.counts[0] as usize);
-            assert!(area(outer) > 0);
-            assert!(area(counter) < 0);
-            assert!(area(outer) + area(counter) > 0);
+        for input in [KINDS[0], KINDS[2]] {
+            for outline in input.outlines(VARIANTS) {
+                let (outer, counter) = outline.points.split_at(2 * outline.counts[0] as usize);
+                assert!(area(outer) > 0);
+                assert!(area(counter) < 0);
+                assert!(area(outer) + area(counter) > 0);
+            }
         }
     }
 
     #[test]
     fn the_edges_of_letters_are_short() {
-        const LONGEST: i64 = 2 * 256;
-        for outline in Input::Letter.outlines(VARIANTS) {
-            let (outer, counter) = outline.points.split_at(2 * outline.counts[0] as usize);
-            for two in outer.windows(4).chain(counter.windows(4)).step_by(2) {
-                assert!((two[2] - two[0]).abs() <= LONGEST && (two[3] - two[1]).abs() <= LONGEST);
+        const LONGEST: i64 = 2 * STEPS_PER_PIXEL as i64;
+        for outline in KINDS[0].outlines(VARIANTS) {
+            assert!(edges(&outline).into_iter().flatten().all(|d| d.abs() <= LONGEST));
+        }
+    }
+
+    #[test]
+    fn traced_edges_are_level_and_upright_by_turns_and_short() {
+        const LONGEST: i64 = STEPS_PER_PIXEL as i64;
+        for outline in KINDS[2].outlines(VARIANTS) {
+            for two in edges(&outline).chunks(2) {
+                let ([level, 0], [0, upright]) = (two[0], two[1]) else { panic!("{two:?}") };
+                for length in [level, upright] {
+                    assert!(length != 0 && length % i64::from(STEPS_PER_DOT) == 0 && length.abs() <= LONGEST);
+                }
+            }
+        }
+    }
+
+    #[test]
+    fn the_edges_of_a_walk_have_its_length() {
+        for length in [64, 1024, 8192] {
+            for outline in Input::full(Shape::Walk(length)).outlines(VARIANTS) {
+                let all = edges(&outline);
+                for [dx, dy] in &all[..all.len() - 1] {
+                    // each coordinate is rounded by half a step at most
+                    assert!((((dx * dx + dy * dy) as f64).sqrt() - f64::from(length)).abs() < 1.0);
+                }
             }
         }
     }
 
     #[test]
     fn outlines_differ_and_are_the_same_each_time() {
-        for input in INPUTS {
+        for input in [&KINDS[..], &[Input::full(Shape::Walk(256))]].concat() {
             let (once, again) = (input.outlines(VARIANTS), input.outlines(VARIANTS));
             assert!(once.iter().zip(&again).all(|(a, b)| a.points == b.points));
             assert!(once.windows(2).all(|two| two[0].points != two[1].points));

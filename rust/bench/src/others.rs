@@ -1,6 +1,6 @@
 //! FreeType and AGG, through the shims. Unsafe code is here and in `library.rs` only.
 
-use crate::inputs::{Outline, DEPTH, EDGES, SIDE};
+use crate::inputs::{Outline, EDGES};
 use std::ffi::c_void;
 
 #[derive(Clone, Copy, PartialEq, Debug)]
@@ -90,10 +90,10 @@ impl Rasteriser {
     /// Draws the outline of a tile at one level: clears the picture, scales the points, and fills. An error is the
     /// library's own number.
     pub fn draw(&mut self, outline: &Outline, level: u32, picture: &mut [u8]) -> Result<(), i32> {
-        let points: usize = outline.counts.iter().map(|&n| n as usize).sum();
+        let points = outline.edges();
         assert!(outline.counts.iter().all(|&n| n > 0) && points <= EDGES);
-        assert!(outline.points.len() == 2 * points);
-        assert!(level <= DEPTH && picture.len() == 1 << (2 * level));
+        assert!(outline.points.len() == 2 * points as usize);
+        assert!(level <= outline.depth() && picture.len() == 1 << (2 * level));
         // Safety: the handle is open, the points are as many as the counts say and fit the shim's arrays, and the picture
         // has a byte for each pixel of the halved side.
         let error = unsafe {
@@ -102,8 +102,8 @@ impl Rasteriser {
                 outline.points.as_ptr(),
                 outline.counts.as_ptr(),
                 outline.counts.len() as u32,
-                SIDE,
-                DEPTH - level,
+                outline.side,
+                outline.depth() - level,
                 picture.as_mut_ptr(),
             )
         };

@@ -5,6 +5,9 @@ use std::time::{Duration, Instant};
 /// Odd, so that the median is a round's own number.
 pub const ROUNDS: usize = 101;
 
+/// For a look at a page whose times nobody keeps.
+pub const FEW_ROUNDS: usize = 5;
+
 /// A sample runs one case again and again for at least this long: the clock's own cost and grain are lost in it.
 pub const SAMPLE: Duration = Duration::from_millis(2);
 
@@ -40,21 +43,22 @@ impl<C: Copy + PartialEq> Times<C> {
     pub fn measure(
         cases: Vec<C>,
         each: usize,
+        rounds: usize,
         mut run: impl FnMut(C) -> Result<(), String>,
     ) -> Result<Times<C>, String> {
         let mut repeats = Vec::new();
         for &case in &cases {
             repeats.push(enough(|| run(case))?);
         }
-        let mut rounds = Vec::new();
-        for _ in 0..ROUNDS {
+        let mut all = Vec::new();
+        for _ in 0..rounds {
             let mut round = Vec::new();
             for (&case, &n) in cases.iter().zip(&repeats) {
                 round.push(seconds_each(time(|| run(case), n)?, n, each));
             }
-            rounds.push(round);
+            all.push(round);
         }
-        Ok(Times { cases, rounds })
+        Ok(Times { cases, rounds: all })
     }
 
     /// As if they had been measured.
@@ -132,15 +136,15 @@ mod tests {
     #[test]
     fn every_case_runs_in_every_round_and_an_error_ends_it() {
         let mut runs = [0; 2];
-        let times = Times::measure(vec![0, 1], 1, |case: usize| {
+        let times = Times::measure(vec![0, 1], 1, FEW_ROUNDS, |case: usize| {
             runs[case] += 1;
             std::thread::sleep(SAMPLE);
             Ok(())
         });
-        assert!(times.is_ok() && runs.iter().all(|&n| n > ROUNDS));
+        assert!(times.is_ok() && runs.iter().all(|&n| n > FEW_ROUNDS));
         assert_eq!(seconds_each(Duration::from_secs(3), 2, 5), 0.3);
-        let mut left = ROUNDS;
-        let failing = Times::measure(vec![0], 1, |_| {
+        let mut left = FEW_ROUNDS;
+        let failing = Times::measure(vec![0], 1, FEW_ROUNDS, |_| {
             std::thread::sleep(SAMPLE);
             left -= 1;
             if left == 0 {
