@@ -68,7 +68,8 @@ impl Series {
 
     fn label(self, input: Input) -> String {
         match (self, input.shape) {
-            (Series::Edges, _) => format!("{}, {} of them", input.name(), thousands(input.edges.into())),
+            (Series::Edges, Shape::Letter) => format!("Letters of {} edges", thousands(input.edges.into())),
+            (Series::Edges, _) => format!("{} {}", thousands(input.edges.into()), input.name().to_lowercase()),
             (Series::Side, _) => format!("{}, side {}", input.name(), input.side),
             (Series::Length, Shape::Walk(length)) if length < STEPS_PER_PIXEL => {
                 format!("1/{} pixel", STEPS_PER_PIXEL / length)
@@ -189,7 +190,7 @@ mod tests {
         let counts = Ok(rows.iter().map(|&input| (input, 7 * i64::from(input.edges))).collect());
         let grown = Grown { series: Series::Edges, times: Times::of(cases, vec![round]), counts };
         let text = growth(&[grown]);
-        let expected = "| Letters, 1,024 of them | 1.02 ms | 1.00 µs | 7 | 2.00 µs | 12.0 ms | 4.00 |\n";
+        let expected = "| Letters of 1,024 edges | 1.02 ms | 1.00 µs | 7 | 2.00 µs | 12.0 ms | 4.00 |\n";
         assert!(text.contains(expected) || !Library::FreeType.is_there(), "{text}");
         assert_eq!(text.lines().filter(|line| line.starts_with("| ")).count(), 1 + rows.len());
     }

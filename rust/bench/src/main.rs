@@ -43,7 +43,7 @@ Takes some minutes; let nothing else run.
     cargo run --release -p bench              writes docs/BENCHMARKS.md
 
     --print         writes the page to standard output instead
-    --quick         few rounds, for a look at the page: its times are for nobody
+    --quick         the same, after few rounds: a look, whose times nobody keeps
     --before FILE   an earlier library too, in the same rounds: FILE is the
                     libtile_c.a that `rt staticlib tile_c` made of it. Leave it in
                     the checkout that it was made in, whose commit the page names.
@@ -95,7 +95,7 @@ fn main() -> ExitCode {
         }
         ([COUNT, ..], _) => counting::run_counted(&arguments[1..]),
         ([READ, ..], _) => reads::run_read(&arguments[1..]),
-        (_, Some(options)) => measure(&options).and_then(|page| write(&page, options.print)),
+        (_, Some(options)) => measure(&options).and_then(|page| write(&page, options.print || options.quick)),
         (_, None) => Err(format!("these arguments say nothing to it\n\n{HELP}")),
     };
     match done {

@@ -12,7 +12,7 @@ use crate::growth::{growth, Grown};
 use crate::inputs::{Input, DEPTH, EDGES, KINDS, SIDE, VARIANTS};
 use crate::machine::Machine;
 use crate::others::{Library, LIBRARIES};
-use crate::pixels::GREATEST_ERROR;
+use crate::pixels::{GREATEST_ERROR, UNITS_PER_GREY};
 use crate::profile::Profile;
 use crate::timing::{Times, SAMPLE};
 use crate::words::{digits, line, not_counted, quartiles, range, seconds, thousands};
@@ -114,7 +114,7 @@ fn how_measured(rounds: usize) -> String {
          - **Instructions** are those for the first of the outlines, counted by callgrind: a program that runs the case twice \
          less one that runs it once. A few in a thousand depend on the addresses that memory gets.\n\
          - **Buffers are cleared first**, and that is in all times. Building clears its table itself, within the call. Our calls that draw write every \
-         place of a picture, as pixel by pixel does; it is all the same cleared before each drawing of theirs. FreeType and AGG draw onto what is there, \
+         place of a picture, and so does pixel by pixel; it is all the same cleared before each of these drawings. FreeType and AGG draw onto what is there, \
          and each of their pictures is cleared too.\n\
          - **Building** asks all its questions, and **drawing** looks at the whole table, all in range here, in each call: both are in the times. The \
          **placement** is a quarter turn, which leaves as many edges in as many cells: what it takes longer is the placing of the points. Of a \
@@ -122,10 +122,10 @@ fn how_measured(rounds: usize) -> String {
          - **Pixel by pixel** is a Rust program without a table, `rust/bench/src/pixels.rs`, in the same optimised build. It works the exact area of each of \
          the {pixels} pixels over every edge in turn: as y runs along the edge, how far x lies past the pixel's left side, held between 0 and the pixel's \
          width, summed over the y in the pixel's rows, with the sign of the run; doubled. Its arithmetic is floats of 64 bits. What depends on the edge \
-         alone, as its slope, is worked out once for each drawing, and no pixel divides; on these outlines no area is off by {error} of a unit, where a grey \
-         is {grey} units, and a test holds it to that. An edge that is not in the pixel's rows or is wholly to its left is passed over by comparisons, and \
-         one that is wholly to its right counts width times height. Edges are not sorted by row: every pixel asks every edge. The second row does the \
-         same in whole numbers of 64 bits, over |dx| × |dy|, with two divisions for each edge that the pixel cuts, and with Rust's checks for overflow. \
+         alone, such as its slope, is worked out once for each drawing, and no division is left for the pixels. On these outlines no area is off by {error} \
+         of a unit, where a grey is {grey} units; a test holds it to that. An edge that is not in the pixel's rows, or is wholly to its left, is passed over \
+         by comparisons, and one that is wholly to its right counts width times height. Edges are not sorted by row: every pixel asks every edge. The second \
+         row does the same in whole numbers of 64 bits, over |dx| × |dy|: two divisions where comparisons do not decide, and Rust's checks for overflow. \
          Both draw our pictures of level {DEPTH}, in all outlines, but for one grey at most: otherwise nothing is measured.\n\
          - **FreeType and AGG** have no table. Each size is a drawing of its own, from the outline scaled to it; scaling is in the times; opening the \
          library, or making the rasteriser and its memory, is not.\n\
@@ -138,9 +138,6 @@ fn how_measured(rounds: usize) -> String {
         grey = UNITS_PER_GREY,
     )
 }
-
-/// The units of area that a grey has: 131,072 over 255, to the nearest.
-const UNITS_PER_GREY: u32 = 514;
 
 fn results(measured: &Measured) -> String {
     let mut text = format!("## {}\n\n{}\n\n", measured.input.name(), measured.input.about());

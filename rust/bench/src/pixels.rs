@@ -16,6 +16,9 @@ const FULL: i64 = 2 * (WIDTH * WIDTH) as i64;
 /// Full ink.
 const INK: i64 = 255;
 
+/// How many units of area a grey has, to the nearest.
+pub const UNITS_PER_GREY: i64 = (FULL + INK / 2) / INK;
+
 /// In what numbers an edge's part of an area is worked out.
 #[derive(Clone, Copy, PartialEq, Debug)]
 pub enum Arithmetic {
@@ -73,17 +76,33 @@ struct Pixel {
     bottom: i32,
 }
 
+/// The part of an edge that lies in a pixel's rows, from top to bottom.
+#[derive(Clone, Copy)]
+struct Rows {
+    top: i32,
+    bottom: i32,
+}
+
 impl Pixel {
-    /// The edge's rows in the pixel, unless the edge has no part in its area.
-    fn rows(self, edge: &Edge) -> Option<(i32, i32)> {
-        let (top, bottom) = (edge.top.max(self.top), edge.bottom.min(self.bottom));
-        (top < bottom && edge.right > self.left).then_some((top, bottom))
+    fn at(left: i32, top: i32) -> Pixel {
+        Pixel { left, right: left + WIDTH, top, bottom: top + WIDTH }
+    }
+
+    /// The area, or what an arithmetic has for it: the sum over all edges. Most have no part in it: they are not in the pixel's rows, or to its left.
+    fn area<T: std::ops::AddAssign + Default>(self, edges: &[Edge], part: impl Fn(Pixel, &Edge, Rows) -> T) -> T {
+        let mut sum = T::default();
+        for edge in edges {
+            let rows = Rows { top: edge.top.max(self.top), bottom: edge.bottom.min(self.bottom) };
+            if rows.top < rows.bottom && edge.right > self.left {
+                sum += part(self, edge, rows);
+            }
+        }
+        sum
     }
 
     /// An edge's part of the area, in units.
-    fn part(self, edge: &Edge) -> f64 {
+    fn part(self, edge: &Edge, Rows { top, bottom }: Rows) -> f64 {
         const FAR: f64 = WIDTH as f64;
-        let Some((top, bottom)) = self.rows(edge) else { return 0.0 };
         let height = edge.sign * (f64::from(bottom) - f64::from(top));
         if edge.left >= self.right {
             return 2.0 * FAR * height;
@@ -104,8 +123,7 @@ impl Pixel {
     }
 
     /// The same in parts of a unit, of which there are 2^`FINE`.
-    fn whole_part(self, edge: &Edge) -> i64 {
-        let Some((top, bottom)) = self.rows(edge) else { return 0 };
+    fn whole_part(self, edge: &Edge, Rows { top, bottom }: Rows) -> i64 {
         let (sign, width) = (edge.sign as i64, i64::from(WIDTH));
         let height = sign * i64::from(bottom - top);
         if edge.left >= self.right {
@@ -134,7 +152,7 @@ impl Pixel {
 /// 59 bits.
 const FINE: u32 = 32;
 
-/// How far the areas of the two arithmetics are apart, at most, in units, of which a grey is 514. A test holds them to it.
+/// How far the areas of the two arithmetics are apart, at most, in units. A test holds them to it.
 pub const GREATEST_ERROR: f64 = 1e-3;
 
 /// Memory for the edges, which is used again.
@@ -154,18 +172,17 @@ impl PixelByPixel {
         }
     }
 
-    fn draw_by<T: std::iter::Sum<T>>(
+    fn draw_by<T: std::ops::AddAssign + Default>(
         &self,
         side: u32,
         picture: &mut [u8],
-        part: impl Fn(Pixel, &Edge) -> T,
+        part: impl Fn(Pixel, &Edge, Rows) -> T,
         grey: impl Fn(T) -> u8,
     ) {
         let rows = picture.chunks_mut(side as usize).zip((0..).step_by(WIDTH as usize));
         for (row, top) in rows {
             for (place, left) in row.iter_mut().zip((0..).step_by(WIDTH as usize)) {
-                let pixel = Pixel { left, right: left + WIDTH, top, bottom: top + WIDTH };
-                *place = grey(self.edges.iter().map(|edge| part(pixel, edge)).sum());
+                *place = grey(Pixel::at(left, top).area(&self.edges, &part));
             }
         }
     }
@@ -198,7 +215,7 @@ fn whole_grey(area: i64) -> u8 {
 #[cfg(test)]
 mod tests {
     use super::*;
-    use crate::inputs::KINDS;
+    use crate::inputs::{KINDS, VARIANTS};
 
     fn drawn(arithmetic: Arithmetic, side: u32, points: &[i64], counts: &[u32]) -> Vec<u8> {
         let mut picture = vec![77; (side * side) as usize];
@@ -231,11 +248,7 @@ mod tests {
             let outline = Outline { side: 2, points: points.to_vec(), counts: vec![3] };
             let mut all = PixelByPixel::default();
             all.take_edges(&outline);
-            let (left, top) = (WIDTH * cx, WIDTH * cy);
-            let pixel = Pixel { left, right: left + WIDTH, top, bottom: top + WIDTH };
-            let floats: f64 = all.edges.iter().map(|edge| pixel.part(edge)).sum();
-            let whole: i64 = all.edges.iter().map(|edge| pixel.whole_part(edge)).sum();
-            (floats, whole as f64 / (1u64 << FINE) as f64)
+            areas(&all, WIDTH * cx, WIDTH * cy)
         };
         let f = [0, 0, 384, 1, 0, 1];
         let g = [255, 0, 259, 1, 255, 1];
@@ -250,7 +263,7 @@ mod tests {
     #[test]
     fn floats_are_as_good_as_whole_numbers() {
         for input in KINDS {
-            for outline in input.outlines(2) {
+            for outline in input.outlines(VARIANTS) {
                 assert!(greatest_error(&outline) < GREATEST_ERROR, "{input:?}");
             }
         }
@@ -261,16 +274,21 @@ mod tests {
         }
     }
 
+    /// In units, by each arithmetic.
+    fn areas(all: &PixelByPixel, left: i32, top: i32) -> (f64, f64) {
+        let pixel = Pixel::at(left, top);
+        let whole = pixel.area(&all.edges, Pixel::whole_part);
+        (pixel.area(&all.edges, Pixel::part), whole as f64 / (1u64 << FINE) as f64)
+    }
+
     fn greatest_error(outline: &Outline) -> f64 {
         let mut all = PixelByPixel::default();
         all.take_edges(outline);
         let mut greatest = 0f64;
         for top in (0..WIDTH * outline.side as i32).step_by(WIDTH as usize) {
             for left in (0..WIDTH * outline.side as i32).step_by(WIDTH as usize) {
-                let pixel = Pixel { left, right: left + WIDTH, top, bottom: top + WIDTH };
-                let floats: f64 = all.edges.iter().map(|edge| pixel.part(edge)).sum();
-                let whole: i64 = all.edges.iter().map(|edge| pixel.whole_part(edge)).sum();
-                greatest = greatest.max((floats - whole as f64 / (1u64 << FINE) as f64).abs());
+                let (floats, whole) = areas(&all, left, top);
+                greatest = greatest.max((floats - whole).abs());
             }
         }
         greatest

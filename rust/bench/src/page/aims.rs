@@ -14,10 +14,12 @@ enum Wanted {
     Times(f64),
     /// Instructions: they are to have more.
     Instructions,
+    /// Times, for comparison: no aim was set.
+    Nothing,
 }
 
 struct Aim {
-    /// What a customer asked for; the others we set ourselves.
+    /// Asked for by a customer; the others we set ourselves.
     asked: bool,
     shape: Shape,
     theirs: Case,
@@ -31,7 +33,7 @@ const AGG: Case = Case::Other(Library::Agg, Size::All);
 /// "no more than half its time"
 const HALF: f64 = 2.0;
 
-const AIMS: [Aim; 9] = [
+const AIMS: [Aim; 10] = [
     Aim { asked: true, shape: Shape::Letter, theirs: PIXELS, wanted: Wanted::Times(HALF) },
     Aim { asked: true, shape: Shape::Random, theirs: PIXELS, wanted: Wanted::Times(HALF) },
     Aim { asked: true, shape: Shape::Traced, theirs: PIXELS, wanted: Wanted::Times(HALF) },
@@ -41,6 +43,7 @@ const AIMS: [Aim; 9] = [
     Aim { asked: false, shape: Shape::Letter, theirs: FREETYPE, wanted: Wanted::Instructions },
     Aim { asked: false, shape: Shape::Random, theirs: FREETYPE, wanted: Wanted::Times(5.0) },
     Aim { asked: false, shape: Shape::Random, theirs: AGG, wanted: Wanted::Times(4.0) },
+    Aim { asked: false, shape: Shape::Traced, theirs: FREETYPE, wanted: Wanted::Nothing },
 ];
 
 pub fn aims(measured: &[Measured]) -> String {
@@ -48,7 +51,7 @@ pub fn aims(measured: &[Measured]) -> String {
         "## What is wanted, and what was measured\n\n\
          How many times as long as ours in the same run the others take, or how many times as many instructions. What is asked is half the time \
          of a program that goes pixel by pixel; the rest we aim at ourselves.\n\n\
-         | | | Ours | Theirs | Wanted | Measured | Quartiles | |\n\
+         | | Kind | Ours | Theirs | Wanted | Measured | Quartiles | |\n\
          |---|---|---|---|--:|--:|--:|---|\n",
     );
     for aim in &AIMS {
@@ -63,23 +66,41 @@ fn row(aim: &Aim, measured: &Measured) -> String {
     let (wanted, found) = match aim.wanted {
         Wanted::Times(least) => {
             let ratio = measured.times.ratio(aim.theirs, ours);
-            (format!("{least}, time"), ratio.map(|ratio| (ratio.median, quartiles(ratio), ratio.median >= least)))
+            (
+                format!("{least}, time"),
+                ratio.map(|ratio| (ratio.median, quartiles(ratio), verdict(ratio.median >= least))),
+            )
         }
         Wanted::Instructions => {
             let count = |case| Some(measured.profile(case)?.total() as f64);
             let ratio = count(aim.theirs).zip(count(ours)).map(|(theirs, ours)| theirs / ours);
-            ("over 1, instructions".into(), ratio.map(|ratio| (ratio, String::new(), ratio > 1.0)))
+            ("over 1, instructions".into(), ratio.map(|ratio| (ratio, String::new(), verdict(ratio > 1.0))))
+        }
+        Wanted::Nothing => {
+            let ratio = measured.times.ratio(aim.theirs, ours);
+            ("time".into(), ratio.map(|ratio| (ratio.median, quartiles(ratio), "")))
         }
     };
     let (ratio, spread, met) = match found {
-        Some((ratio, spread, met)) => (digits(ratio), spread, if met { "met" } else { "**not met**" }),
+        Some((ratio, spread, met)) => (digits(ratio), spread, met),
         None => (String::new(), String::new(), "not measured"),
     };
-    let asked = if aim.asked { "asked" } else { "aim" };
-    let titles = [ours, aim.theirs].map(|case| case.title().replace('*', ""));
-    let [ours, theirs] = titles;
+    let asked = match (aim.asked, aim.wanted) {
+        (_, Wanted::Nothing) => "no aim",
+        (true, _) => "asked",
+        (false, _) => "aim",
+    };
+    let [ours, theirs] = [ours, aim.theirs].map(|case| case.title().replace('*', ""));
     let cells = [asked, measured.input.name(), &ours, &theirs, &wanted, &ratio, &spread, met];
     format!("| {} |", cells.join(" | "))
+}
+
+fn verdict(met: bool) -> &'static str {
+    if met {
+        "met"
+    } else {
+        "**not met**"
+    }
 }
 
 #[cfg(test)]
@@ -105,6 +126,8 @@ mod tests {
         assert!(row(1.99, Wanted::Times(HALF), PIXELS).ends_with("| 1.99 | 1.99 – 1.99 | **not met** |"));
         assert!(row(2.0, Wanted::Times(1.5), FREETYPE).ends_with("| 1.5, time |  |  | not measured |"));
         assert!(row(2.0, Wanted::Instructions, PIXELS).ends_with("|  |  | not measured |"));
+        let shown = row(3.0, Wanted::Nothing, PIXELS);
+        assert!(shown.starts_with("| no aim |") && shown.ends_with("| time | 3.00 | 3.00 – 3.00 |  |"));
     }
 
     #[test]

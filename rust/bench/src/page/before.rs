@@ -4,13 +4,14 @@ use super::Measured;
 use crate::cases::{Case, STEPS};
 use crate::words::{digits, line, quartiles, range, seconds, thousands};
 
-/// The library of this commit lies before; without one there is nothing to say.
+/// The commit is that of the earlier library; without one there is nothing to say.
 pub fn before(commit: Option<&str>, measured: &[Measured]) -> Option<String> {
     let commit = commit?;
     let mut text = format!(
         "## Before and after\n\n\
          **Before** is the library that lies in a checkout of {commit}, handed over with `--before` and called in the same rounds: its ratio is its \
-         time over ours. Above 1, it was slower. Nothing is measured unless its tables are equal to ours, entry by entry, and its greys too, in all \
+         time over ours. Above 1, it was slower. It is opened while the program runs, and so calls the C library by a detour, which takes a few instructions \
+         each time and is no work of its own. Nothing is measured unless its tables are equal to ours, entry by entry, and its greys too, in all \
          outlines.\n"
     );
     const COLUMNS: [&str; 8] =

@@ -42,7 +42,7 @@ pub fn one_cell(measured: &MeasuredCells, before: Option<&str>) -> String {
     if before.is_some() {
         line(
             &mut text,
-            "\n**Before** is the earlier library. Both are opened and called alike; below 1, it was faster.",
+            "\n**Before** is the earlier library: its ratio is its time over ours. Both are opened and called alike.",
         );
     }
     const COLUMNS: [&str; 9] = [
