@@ -26,8 +26,6 @@ pub struct Work {
     turn: usize,
     /// The levels of the tiles below the root.
     depth: u32,
-    /// The table of an outline that is placed, or built by an earlier library; nothing is drawn from it.
-    aside: Vec<i64>,
     /// Of all levels, from the single pixel on, one after the other.
     pictures: Vec<u8>,
     pixel_by_pixel: PixelByPixel,
@@ -35,10 +33,13 @@ pub struct Work {
     before: Option<Opened>,
 }
 
-/// An outline and its table.
+/// An outline and its tables. Each way of building has one of its own, so that none gains by what is in the processor's caches.
 struct Tile {
     outline: Outline,
     table: Vec<i64>,
+    placed: Vec<i64>,
+    /// As an earlier library builds it.
+    before: Vec<i64>,
 }
 
 /// All levels of a tile, level 0 first, one after the other.
@@ -58,18 +59,20 @@ impl Work {
         let open = |library| Some((library, Rasteriser::open(library)?));
         let depth = input.side.trailing_zeros();
         let table = || vec![0; (input.side * input.side) as usize];
-        let tile = |outline| Tile { outline, table: table() };
+        let tile = |outline| Tile { outline, table: table(), placed: table(), before: table() };
         let mut work = Work {
             tiles: input.outlines(variants).into_iter().map(tile).collect(),
             turn: 0,
             depth,
-            aside: table(),
             pictures: vec![0; places(depth).end],
             pixel_by_pixel: PixelByPixel::default(),
             others: LIBRARIES.into_iter().filter_map(open).collect(),
             before: before.map(Opened::open).transpose()?,
         };
         work.run_all(Case::Build)?;
+        if before.is_some() {
+            work.run_all(Case::Before(Step::Build))?;
+        }
         Ok(work)
     }
 
@@ -120,21 +123,21 @@ impl Work {
     }
 
     fn build(&mut self) -> Result<(), String> {
-        let Tile { outline, table } = black_box(&mut self.tiles[self.turn]);
+        let Tile { outline, table, .. } = black_box(&mut self.tiles[self.turn]);
         let answer = mattuliyan::build(outline.side, &outline.points, &outline.counts, table);
         black_box(table);
         all_edges(answer, outline)
     }
 
     fn build_placed(&mut self) -> Result<(), String> {
-        let (outline, table) = black_box((&self.tiles[self.turn].outline, &mut self.aside));
+        let Tile { outline, placed: table, .. } = black_box(&mut self.tiles[self.turn]);
         let answer = mattuliyan::build_placed(outline.side, &outline.points, &outline.counts, QUARTER_TURN, table);
         black_box(table);
         all_edges(answer, outline)
     }
 
     fn correct(&mut self) -> Result<(), String> {
-        let (speck, Tile { outline, table }) = black_box((&SPECK, &mut self.tiles[self.turn]));
+        let (speck, Tile { outline, table, .. }) = black_box((&SPECK, &mut self.tiles[self.turn]));
         let (count, mut edges) = ((speck.len() / 2) as u32, outline.edges());
         let answer = mattuliyan::take(outline.side, speck, count, Placement::None, &mut edges, table)
             .and_then(|()| mattuliyan::put(outline.side, speck, count, Placement::None, &mut edges, table))
@@ -161,7 +164,7 @@ impl Work {
 
     fn draw(&mut self, size: Size) -> Result<(), String> {
         let depth = self.depth;
-        let (Tile { outline, table }, pictures) = self.cleared(size);
+        let (Tile { outline, table, .. }, pictures) = self.cleared(size);
         let answer = match size {
             Size::Full => mattuliyan::greys(outline.side, depth, table, pictures),
             Size::All => level_by_level(outline.side, table, pictures),
@@ -171,7 +174,7 @@ impl Work {
     }
 
     fn draw_pyramid(&mut self) -> Result<(), String> {
-        let (Tile { outline, table }, pictures) = self.cleared(Size::All);
+        let (Tile { outline, table, .. }, pictures) = self.cleared(Size::All);
         let answer = pyramid(outline.side, table, pictures);
         black_box(pictures);
         answer.map_err(|refusal| format!("all levels: {refusal}"))
@@ -194,7 +197,7 @@ impl Work {
 
     fn build_before(&mut self) -> Result<(), String> {
         let before = black_box(self.before.as_ref().ok_or(NO_LIBRARY)?);
-        let (outline, table) = black_box((&self.tiles[self.turn].outline, &mut self.aside));
+        let Tile { outline, before: table, .. } = black_box(&mut self.tiles[self.turn]);
         let answer = before.build(outline, table);
         black_box(table);
         match answer {
@@ -203,7 +206,7 @@ impl Work {
         }
     }
 
-    /// From our own tables, with which those of the earlier library agree.
+    /// From the tables that the earlier library built.
     fn draw_before(&mut self, size: Size) -> Result<(), String> {
         let levels = self.levels(size);
         let first = places(*levels.start()).start;
@@ -212,7 +215,7 @@ impl Work {
         let before = black_box(self.before.as_ref().ok_or(NO_LIBRARY)?);
         for level in levels {
             let picture = &mut pictures[places(level)];
-            let number = before.greys(tile.outline.side, level, black_box(&tile.table), picture);
+            let number = before.greys(tile.outline.side, level, black_box(&tile.before), picture);
             black_box(picture);
             if number != 0 {
                 return Err(format!("the library before: greys of level {level} answer {number}"));
@@ -247,7 +250,7 @@ impl Work {
             }
             if self.before.is_some() {
                 let drawn = self.drawn(Case::Before(Step::BuildAndDrawAll))?;
-                if self.aside != self.tiles[turn].table {
+                if self.tiles[turn].before != self.tiles[turn].table {
                     return Err("the library before builds another table".into());
                 }
                 if drawn != ours {

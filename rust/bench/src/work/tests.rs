@@ -74,8 +74,9 @@ fn what_is_not_the_same_is_told() {
     work.tiles[0].table[4095] += 1;
     assert!(work.check().is_err_and(|message| message.contains("another table")));
     // a library that answers otherwise
-    let mut work = with_another(|object| Work::new(LETTERS, 1, Some(object))).unwrap();
-    assert!(work.check().is_err_and(|message| message.contains("the library before")));
+    let opened = with_another(|object| Work::new(LETTERS, 1, Some(object)));
+    assert!(opened.is_err_and(|message| message.contains("the library before")));
+    work.before = Some(with_another(Opened::open).unwrap());
     assert!(work.run_all(Case::Before(Step::Draw(Full))).is_err());
 }
 
@@ -97,7 +98,7 @@ fn a_placed_outline_is_the_same_on_its_side() {
         picture
     };
     let (upright, side) = (drawn(&work.tiles[0].table), SIDE as usize);
-    for (at, grey) in drawn(&work.aside).into_iter().enumerate() {
+    for (at, grey) in drawn(&work.tiles[0].placed).into_iter().enumerate() {
         let (x, y) = (at % side, at / side);
         assert!(grey.abs_diff(upright[(side - 1 - x) * side + y]) <= 1, "({x}, {y})");
     }
