@@ -43,13 +43,17 @@ pub enum Case {
 use Case::{Before, Build, BuildAndDraw, BuildPlaced, Correct, Draw, Other, Pixels, Pyramid};
 use Size::{All, Full};
 
-/// In the order of the page, those that draw the same under one another.
+/// In the order of the page, those that draw the same under one another, and an earlier library's after its own: what is compared is run soon after
+/// one another.
 pub const CASES: [Case; 18] = [
     Build,
+    Before(Step::Build),
     BuildPlaced,
     Correct,
     Draw(Full),
+    Before(Step::Draw(Full)),
     Draw(All),
+    Before(Step::Draw(All)),
     Pyramid,
     BuildAndDraw(Full),
     Pixels(Arithmetic::Floats),
@@ -57,12 +61,9 @@ pub const CASES: [Case; 18] = [
     Other(Library::FreeType, Full),
     Other(Library::Agg, Full),
     BuildAndDraw(All),
+    Before(Step::BuildAndDrawAll),
     Other(Library::FreeType, All),
     Other(Library::Agg, All),
-    Before(STEPS[0]),
-    Before(STEPS[1]),
-    Before(STEPS[2]),
-    Before(STEPS[3]),
 ];
 
 impl Case {

@@ -53,9 +53,10 @@ impl Series {
                  edges stay as long as they are."
             ),
             Series::Side => format!(
-                "The same outlines of {} edges, on a smaller tile: scaled to it, so that an edge of a letter is half a pixel long \
-                 on side {SIDE}, and an eighth of that on side {}. A smaller tile has fewer levels.",
+                "Outlines of {} edges, on a smaller tile, which has fewer levels. Letters are scaled to it, so that an edge of half a \
+                 pixel on side {SIDE} is 1/{} of that on side {}; random edges go all over it.",
                 thousands(EDGES.into()),
+                SIDE / SIDES[0],
                 SIDES[0]
             ),
             Series::Length => format!(
@@ -104,8 +105,8 @@ pub fn measure(series: Series, rounds: usize, counter: &Result<Counter, String>)
         works.push((input, work));
     }
     let all = Case::all(false);
-    let cases = CASES.into_iter().filter(|case| all.contains(case));
-    let cases: Vec<_> = cases.flat_map(|case| rows.iter().map(move |&input| (input, case))).collect();
+    let there: Vec<Case> = CASES.into_iter().filter(|case| all.contains(case)).collect();
+    let cases = rows.iter().flat_map(|&input| there.iter().map(move |&case| (input, case))).collect();
     let times = Times::measure(cases, VARIANTS, rounds, |(input, case)| {
         let found = works.iter_mut().find(|(each, _)| *each == input);
         found.map(|(_, work)| work.run_all(case)).unwrap_or(Err("no such row".into()))

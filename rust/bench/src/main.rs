@@ -1,4 +1,4 @@
-//! Measures `mattuliyan` beside FreeType and AGG, and writes docs/BENCHMARKS.md.
+//! Measures `mattuliyan` beside a program that goes pixel by pixel, FreeType, AGG and an earlier library, and writes docs/BENCHMARKS.md.
 
 mod cases;
 mod cells;
