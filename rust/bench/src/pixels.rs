@@ -92,8 +92,8 @@ impl Pixel {
     fn area<T: std::ops::AddAssign + Default>(self, edges: &[Edge], part: impl Fn(Pixel, &Edge, Rows) -> T) -> T {
         let mut sum = T::default();
         for edge in edges {
-            let rows = Rows { top: edge.top.max(self.top), bottom: edge.bottom.min(self.bottom) };
-            if rows.top < rows.bottom && edge.right > self.left {
+            if edge.top < self.bottom && self.top < edge.bottom && self.left < edge.right {
+                let rows = Rows { top: edge.top.max(self.top), bottom: edge.bottom.min(self.bottom) };
                 sum += part(self, edge, rows);
             }
         }
