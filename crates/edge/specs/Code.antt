@@ -1,13 +1,16 @@
 -- What the functions below the public ones ask and answer.
 --
 -- Definitions
---   SameHalf, SameQuarter                                both ends of an edge lie in one half, in one quarter
+--   HalfWith                                             which half holds two points
+--   fromSides                                            how far two points lie from the side of their half
 --   Closed, SamplesClosed                                a direction is between its sides, or on them
 --   beyondAt, nearAt, pieceSum,
 --   numeratorsOf, numeratorsAt                           the closed form at the four cuts
 --   heldAt, areaAt                                       that of the area
 --   roundedBy                                            three numerators, rounded
 --   AxisRoom, SamplesWithin                              the ranges that they ask for
+use mathlib.Core.Path.{_≡_}
+use Prim.Native.Nat.{ℕ, zero, suc}
 use lib.IntN.{ℤ, pos, natAbs, _+ℤ_, _-ℤ_, _*ℤ_}
 use lib.Signed.{_≤ℤ_}
 use Rattle.integers.specs.Units.{widthTimesExtentLimit}
@@ -15,7 +18,6 @@ use Rattle.integers.specs.Within.{Within}
 use Rattle.integers.specs.MinMax.{min}
 use Rattle.integers.specs.Clamp.{clamp}
 use Rattle.integers.specs.Rounding.{roundHalfAway}
-use Rattle.edge.specs.declared.Edge.{Edge}
 use Rattle.edge.specs.declared.Axis.{Axis}
 use Rattle.edge.specs.declared.Cell.{Cell}
 use Rattle.edge.specs.declared.Details.{Details}
@@ -23,15 +25,17 @@ use Rattle.edge.specs.declared.Samples.{Samples}
 use Rattle.edge.specs.Walk.{beyond}
 use Rattle.edge.specs.Room.{coordinateLimit, extentLimit}
 
--- ---- tests
--- both p and q lie in the first half of the range that begins at a side, or both in the second; a half has its ends
-pub data SameHalf (side half p q : ℤ) : Type 0 where
-  first : side ≤ℤ p → p ≤ℤ (side +ℤ half) → side ≤ℤ q → q ≤ℤ (side +ℤ half) → SameHalf side half p q
-  second : (side +ℤ half) ≤ℤ p → p ≤ℤ (side +ℤ half +ℤ half) → (side +ℤ half) ≤ℤ q → q ≤ℤ (side +ℤ half +ℤ half) → SameHalf side half p q
+-- ---- an edge in one quarter
+-- r tells which half holds both p and q: 0 the first, 1 the second, 2 neither; the middle is in both
+pub data HalfWith (middle p q : ℤ) (r : ℕ) : Type 0 where
+  first : r ≡ 0 → p ≤ℤ middle → q ≤ℤ middle → HalfWith middle p q r
+  second : r ≡ 1 → middle ≤ℤ p → middle ≤ℤ q → HalfWith middle p q r
+  neither : r ≡ 2 → (p ≤ℤ middle → q ≤ℤ middle → ⊥) → (middle ≤ℤ p → middle ≤ℤ q → ⊥) → HalfWith middle p q r
 
-pub record SameQuarter (e : Edge) (c : Cell) (half : ℤ) : Type 0 where
-  pub x : SameHalf (c .left) half (e .x0) (e .x1)
-  pub y : SameHalf (c .top) half (e .y0) (e .y1)
+-- from two points in the first half, 0, or in the second, 1, to the side of that half, added up; u: how far they lie past the middle, added up
+abbrev pub fromSides : ℕ → ℤ → ℤ → ℤ
+fromSides zero w u = w +ℤ u
+fromSides (suc i) w u = w -ℤ u
 
 -- ---- the four cuts
 -- after t steps the direction is between its sides, or on them

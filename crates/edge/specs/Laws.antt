@@ -19,6 +19,8 @@ pub mod Translation
 pub mod Bounds
 -- no part strictly inside: no details, here and in each cell inside
 pub mod Zero
+-- nor in a cell beside the one that an edge lies in
+pub mod Beside
 -- level, upright and 45-degree edges: whole values
 pub mod OctilinearEdges
 -- the other way along an edge: opposite values

@@ -32,6 +32,7 @@
 
 ghost use mathlib.Core.Path.{_≡_};
 ghost use mathlib.Core.Logic.{_⊎_};
+ghost use Prim.Native.Nat.{_<_};
 ghost use lib.IntN.{pos, natAbs, _+ℤ_, _-ℤ_, _*ℤ_};
 ghost use Rattle.integers.specs.Rounding.{roundHalfAway};
 ghost use lib.Signed.{_≤ℤ_, _<ℤ_};
@@ -44,7 +45,8 @@ ghost use Rattle.edge.specs.Inside.{Inside};
 ghost use Rattle.edge.specs.Rounded.{details as detailsOf, roundedArea};
 ghost use Rattle.edge.specs.Cuts.{strip as stripSteps, stripOf, meet as meetOf, span as spanOf, toMiddle, cutsAt, rows};
 ghost use Rattle.edge.specs.Room.{coordinateLimit, extentLimit, crossingLimit, Measured, Even, Room};
-ghost use Rattle.edge.specs.Code.{AxisRoom, SamplesWithin, SameHalf, SameQuarter, SamplesClosed, beyondAt, nearAt, pieceSum, numeratorsAt, roundedBy, heldAt, areaAt};
+ghost use Rattle.edge.specs.Code.{AxisRoom, SamplesWithin, HalfWith, fromSides, SamplesClosed, beyondAt, nearAt, pieceSum, numeratorsAt, roundedBy, heldAt, areaAt};
+ghost use Rattle.edge.specs.Nested.{quarter, OnCell};
 ghost use Rattle.edge.specs.WalkOf.{IsWalk, Decides};
 use integers::div_round_half_away;
 
@@ -402,43 +404,45 @@ fn round_all(m: Details, n: i64) -> Details
     }
 }
 
-// ---- an edge wholly inside one quarter
+// ---- an edge in one quarter
 
-// Are p and q both in the first half, or both in the second, its sides with it?
-fn same_half(p: i64, q: i64, side: i64, half: i64) -> bool
-    requires { ⌜ Within (pos coordinateLimit) side × (pos 0 ≤ℤ half) × (half ≤ℤ pos widthTimesExtentLimit) ⌝ }
-    ensures { λ b. ⌜ Decides b (SameHalf side half p q) ⌝ }
+// Which half holds both p and q? 0 the first, 1 the second, 2 neither. The middle is in both.
+pub fn half_with(p: i64, q: i64, middle: i64) -> usize
+    ensures { λ r. ⌜ HalfWith middle p q r ⌝ }
 {
-    let first = low(p, q);
-    let last = high(p, q);
-    let middle = side + half;
-    if last <= middle {
-        side <= first
+    if high(p, q) <= middle {
+        0
+    } else if middle <= low(p, q) {
+        1
     } else {
-        middle <= first && last <= middle + half
+        2
     }
 }
 
-fn same_quarter(e: Edge, c: Cell, half: i64) -> bool
-    requires { ⌜ Room e c × (c .width ≡ half +ℤ half) × (pos 0 ≤ℤ half) ⌝ }
-    ensures { λ b. ⌜ Decides b (SameQuarter e c half) ⌝ }
+// From p and from q, both in the first half or both in the second, to the side of that half: the sum.
+fn from_sides(p: i64, q: i64, middle: i64, width: i64, second: usize) -> i64
+    requires { ⌜ Within (pos coordinateLimit) p × Within (pos coordinateLimit) q × Within (pos extentLimit) middle × Within (pos widthTimesExtentLimit) width ⌝ }
+    ensures { λ r. ⌜ r ≡ fromSides second width ((p -ℤ middle) +ℤ (q -ℤ middle)) ⌝ }
 {
-    same_half(e.x0, e.x1, c.left, half) && same_half(e.y0, e.y1, c.top, half)
+    let beyond = (p - middle) + (q - middle);
+    if second == 0 {
+        width + beyond
+    } else {
+        width - beyond
+    }
 }
 
-// Along such an edge no tent bends: one piece from end to end, whose numerators are N times these values.
-fn quarter_details(e: Edge, c: Cell, half: i64) -> Details
-    requires { ⌜ Room e c × (c .width ≡ half +ℤ half) × (pos 0 ≤ℤ half) × SameQuarter e c half ⌝ }
+// Along an edge in quarter (x, y) no tent bends: it is one piece from end to end, whose values are whole. In the upper half d is h, and in the lower it is minus h.
+pub fn quarter_details(e: Edge, c: Cell, half: i64, x: usize, y: usize) -> Details
+    requires { ⌜ Room e c × (c .width ≡ half +ℤ half) × (pos 0 ≤ℤ half) × (x < 2) × (y < 2) × OnCell (quarter c half x y) e ⌝ }
     ensures { λ r. ⌜ r ≡ detailsOf e c ⌝ }
 {
-    let x0 = nearer(c.width, e.x0 - c.left);
-    let y0 = nearer(c.width, e.y0 - c.top);
-    let x1 = nearer(c.width, e.x1 - c.left);
-    let y1 = nearer(c.width, e.y1 - c.top);
-    Details {
-        h: (x0 + x1) * (e.y1 - e.y0),
-        v: -((y0 + y1) * (e.x1 - e.x0)),
-        d: (x0 + x1) * (y1 - y0),
+    let h = from_sides(e.x0, e.x1, c.left + half, c.width, x) * (e.y1 - e.y0);
+    let v = from_sides(e.y0, e.y1, c.top + half, c.width, y) * (e.x1 - e.x0);
+    if y == 0 {
+        Details { h: h, v: -v, d: h }
+    } else {
+        Details { h: h, v: -v, d: -h }
     }
 }
 
@@ -468,11 +472,7 @@ pub fn details_over(w: Walk, c: Cell, s: Span) -> Details
 {
     if s.first < s.last {
         let half = half_of(c.width);
-        if same_quarter(w.edge, c, half) {
-            quarter_details(w.edge, c, half)
-        } else {
-            cut_details(w, c, half, s)
-        }
+        cut_details(w, c, half, s)
     } else {
         Details { h: 0, v: 0, d: 0 }
     }

@@ -4,7 +4,7 @@
 --   OwnAdded, own-added                               the table when the cell has added its own details
 --   firstQuarters, QuarterLoop                        what the first q quarters add; the table when they have had the edge too
 --   quarters-start, quarters-step, quarters-skip      before the first quarter; to the next, when one had the edge or was passed over
---   quarters-asks                                     what the call for a quarter asks for
+--   own-spare, quarters-asks                          the room that is left for the quarters; what the call for one of them asks for
 --   own-length, quarters-length                       the table is as long as it was
 --   quarters-end, own-end                             the cell has added all of the edge: after the fourth quarter, and on the last level
 --   not-inside-of-span                                no steps inside: no part of the edge lies inside
@@ -132,7 +132,7 @@ module _ {before : List ℤ} {e : Edge} {sign : ℤ} {left : ℕ} {c : Node} (r 
 
   module _ (s : Within (pos 1) sign) {entry : List ℤ} (o : OwnAdded e sign c before entry) where
     -- the cell's own details have used up the room for one
-    own-spare : Spare entry (quarters * visits left)
+    pub own-spare : Spare entry (quarters * visits left)
     unfolding visits
     own-spare = subst⁻¹ (λ t. Spare t (quarters * visits left)) (o .sum)
         (spare-added 1 (quarters * visits left) (λ i. sign *ℤ own e c i)

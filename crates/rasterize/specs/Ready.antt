@@ -9,6 +9,8 @@
 --   Ready t e left c             a table, an edge and a cell, with `left` levels from the cell's on
 --   Splits c                     a cell that has quarters
 --   Fits t depth n               a table of a tile of side 2^depth, with room for n more edges
+--   squareOf w                   a square at the origin
+--   Descent e sign depth t c u   table t has become u, and what cell c and those below it are still to add makes up for the rest
 use mathlib.Core.Path.{_≡_}
 use mathlib.Core.List.{List}
 use Prim.Native.Nat.{ℕ, zero, suc, _+_, _*_, _^_, _<_, _≤_}
@@ -26,7 +28,9 @@ use Rattle.edge.specs.Nested.{Contains, Sheet, OnCell}
 use Rattle.haar.specs.Cells.{children}
 use Rattle.haar.specs.Plane.{dimensions}
 use Rattle.rasterize.specs.declared.Node.{Node}
-use Rattle.rasterize.specs.Nodes.{quarters}
+use Rattle.rasterize.specs.Added.{added}
+use Rattle.rasterize.specs.Nodes.{quarters, nodeAt}
+use Rattle.rasterize.specs.Contribution.{contribution}
 
 -- half of what 64 bits hold, so that an entry and one detail more fit
 abbrev pub sumLimit : ℕ
@@ -79,3 +83,15 @@ pub record Fits (t : List ℤ) (depth n : ℕ) : Type 0 where
   pub shallow : depth ≤ greatestDepth
   pub exact : length t ≡ children dimensions ^ depth
   pub spare : Spare t (n + visits greatestDepth)
+
+-- a square at the origin, as the tile is
+abbrev pub squareOf : ℤ → Square
+squareOf w = record { left = pos 0; top = pos 0; width = w }
+
+-- On the way down to the smallest cell that the edge lies in: what cell c and those below it are still to add is the rest. `before` is the table as it
+-- was, without the edge's details.
+pub record Descent (e : Edge) (sign : ℤ) (depth : ℕ) (before : List ℤ) (c : Node) (table : List ℤ) : Type 0 where
+  pub left : ℕ
+  pub levels : c .level + left ≡ depth
+  pub ready : Ready table e left c
+  pub rest : added table (λ i. sign *ℤ contribution e left c i) ≡ added before (λ i. sign *ℤ contribution e depth (nodeAt depth 0 0 0) i)

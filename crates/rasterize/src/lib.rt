@@ -3,13 +3,13 @@
 // The tile is cut into quarters, each quarter into quarters, and so on: a quadtree. An edge adds its term of the signed area to the root, and its
 // three details, h, v and d, which `edge` works out, to each cell inside which some part of it lies.
 //
-//       +-------+-------+        The recursion begins with the whole tile. A cell adds its own three details, and hands the edge on to those of
-//       |       |  /    |        its quarters inside which some part of it lies, here all but the upper left one, until the last level. In a
-//       |       | /     |        cell that the edge misses its details are 0, and so they are in every cell inside that one: none of them is visited.
-//       +-------+/------+
-//       |       /       |        A cell's level and numbers say where its details stand in the table, its square says where it lies; a quarter's
-//       |      /|       |        are worked out from its cell's. What is added is multiplied by a sign, 1 to add and -1 to take out again.
-//       +-----/-+-------+
+//       +-------+-------+        From the whole tile a loop goes down as long as the edge lies in one quarter. There the recursion begins: a cell
+//       |       |  /    |        adds its own three details, and hands the edge on to those of its quarters inside which some part of it lies, here
+//       |       | /     |        all but the upper left one, until the last level. In a cell that the edge misses its details are 0, and so they are
+//       +-------+/------+        in every cell inside that one: none of them is visited.
+//       |       /       |
+//       |      /|       |        A cell's level and numbers say where its details stand in the table, its square says where it lies; a quarter's
+//       +-----/-+-------+        are worked out from its cell's. What is added is multiplied by a sign, 1 to add and -1 to take out again.
 //
 // A tile alone has the edges as they are. A tile of a sheet has them as they are seen from its corner, so that it begins at the origin too; some may lie
 // beyond it, and what an edge adds to the root is then its own part of the tile's area, rounded.
@@ -23,10 +23,10 @@ ghost use lib.ListN.{length, getD, set};
 ghost use lib.IntN.{pos, _+ℤ_, _*ℤ_};
 ghost use Rattle.integers.specs.Within.{Within};
 ghost use Rattle.edge.specs.Cuts.{span as spanOf};
-ghost use Rattle.edge.specs.WalkOf.{IsWalk};
+ghost use Rattle.edge.specs.WalkOf.{IsWalk, Decides};
 ghost use Rattle.edge.specs.Room.{Measured, Room};
 ghost use Rattle.edge.specs.Rounded.{rootTerm};
-ghost use Rattle.edge.specs.Nested.{seenFrom};
+ghost use Rattle.edge.specs.Nested.{seenFrom, OnRange, OnCell};
 ghost use Rattle.integers.specs.ListSum.{All};
 ghost use Rattle.integers.specs.Units.{greatestDepth, detailLimit};
 ghost use Rattle.accuracy.specs.Outline.{pointsOf, contoursOf, edgeCount, contourEdges, outlineEdges};
@@ -36,7 +36,7 @@ ghost use Rattle.rasterize.specs.Added.{added, entryOf};
 ghost use Rattle.rasterize.specs.Nodes.{quarters, quarterNode, nodeAt};
 ghost use Rattle.rasterize.specs.Contribution.{ownPart, contribution};
 ghost use Rattle.rasterize.specs.Contour.{edgeOf};
-ghost use Rattle.rasterize.specs.Ready.{sumLimit, Spare, Ready, Splits, SmallDetails, Fits};
+ghost use Rattle.rasterize.specs.Ready.{sumLimit, Spare, Ready, Splits, SmallDetails, squareOf, Descent, Fits};
 ghost use Rattle.rasterize.specs.Views.{seenBy, rootPart, partTable, viewTable, InView};
 use edge::Cell;
 use edge::Details;
@@ -156,14 +156,14 @@ fn root_term(e: Edge) -> i64
     e.x0 * e.y1 - e.x1 * e.y0
 }
 
-// What the walk's edge adds to the root: its term of the signed area, or on a sheet its rounded part of the tile's area. `depth` is for the contract alone.
-fn root_part(view: View, walk: Walk, tile: Cell, depth: usize) -> i64
-    requires { ⌜ IsWalk walk × Room (walk .edge) tile × (tile ≡ tileSquare depth) ⌝ }
-    ensures { λ r. ⌜ r ≡ rootPart view depth (walk .edge) ⌝ }
+// What the edge adds to the root: its term of the signed area, or on a sheet its rounded part of the tile's area. `depth` is for the contract alone.
+fn root_part(view: View, e: Edge, tile: Cell, depth: usize) -> i64
+    requires { ⌜ Room e tile × (tile ≡ tileSquare depth) ⌝ }
+    ensures { λ r. ⌜ r ≡ rootPart view depth e ⌝ }
 {
     match view {
-        View::Alone => root_term(walk.edge),
-        View::From(_) => edge::area_in(walk, tile),
+        View::Alone => root_term(e),
+        View::From(_) => edge::area_in(edge::walk_of(e), tile),
     }
 }
 
@@ -186,20 +186,83 @@ fn add_node(table: &mut [i64], walk: Walk, sign: i64, c: Node, span: Span, left:
     }
 }
 
-// Adds an edge to the table of the tile of side 2^depth, or takes it out where the sign is -1. An edge no part of which lies inside the tile is not handed
-// down the quadtree.
+// Do p and q lie from 0 to the width?
+fn lie_across(p: i64, q: i64, width: i64) -> bool
+    ensures { λ b. ⌜ Decides b (OnRange (pos 0) width p × OnRange (pos 0) width q) ⌝ }
+{
+    integers::is_within(p, 0, width) && integers::is_within(q, 0, width)
+}
+
+// Do both ends of the edge lie on the square of this width at the origin, its sides with it?
+fn lies_on(e: Edge, width: i64) -> bool
+    requires { ⌜ Measured e ⌝ }
+    ensures { λ b. ⌜ Decides b (OnCell (squareOf width) e) ⌝ }
+{
+    lie_across(e.x0, e.x1, width) && lie_across(e.y0, e.y1, width)
+}
+
+// Adds an edge on the tile to each cell in one quarter of which it lies, from the whole tile down, or takes it out where the sign is -1. Its details there
+// are whole numbers, and no part of it lies inside the other three quarters. Answers the cell at which this ends: the smallest in which the edge lies, or
+// one that has no quarters.
+fn descend(table: &mut [i64], e: Edge, sign: i64, depth: usize) -> Node
+    requires { ⌜ Ready (now table) e depth (nodeAt depth 0 0 0) × OnCell (tileSquare depth) e × Within (pos 1) sign ⌝ }
+    ensures { λ c. ⌜ Descent e sign depth (now (table .entry)) c (now (table .exit)) ⌝ }
+{
+    let mut c = tile_of(depth);
+    while c.level < depth {
+        let half = edge::half_of(c.square.width);
+        let x = edge::half_with(e.x0, e.x1, c.square.left + half);
+        let y = edge::half_with(e.y0, e.y1, c.square.top + half);
+        if x == 2 {
+            return c;
+        }
+        if y == 2 {
+            return c;
+        }
+        let w = edge::quarter_details(e, c.square, half, x, y);
+        add_details(table, haar::first_detail(c.level, c.x, c.y), sign, w);
+        c = quarter_of(c, x + 2 * y);
+    }
+    c
+}
+
+// The same of any edge: for one that leaves the tile the way ends at the tile.
+fn descend_on(table: &mut [i64], e: Edge, sign: i64, depth: usize) -> Node
+    requires { ⌜ Ready (now table) e depth (nodeAt depth 0 0 0) × Measured e × Within (pos 1) sign ⌝ }
+    ensures { λ c. ⌜ Descent e sign depth (now (table .entry)) c (now (table .exit)) ⌝ }
+{
+    let tile = tile_of(depth);
+    if lies_on(e, tile.square.width) {
+        descend(table, e, sign, depth)
+    } else {
+        tile
+    }
+}
+
+// Adds an edge to a cell and to those below it, `left` levels in all, or takes it out where the sign is -1. An edge no part of which lies inside the cell adds
+// nothing there.
+fn add_below(table: &mut [i64], e: Edge, sign: i64, c: Node, left: usize)
+    requires { ⌜ (1 ≤ left) × Ready (now table) e left c × Within (pos 1) sign ⌝ }
+    ensures { λ _. ⌜ now (table .exit) ≡ added (now (table .entry)) (λ i. sign *ℤ contribution e left c i) ⌝ }
+{
+    let walk = edge::walk_of(e);
+    let span = edge::span_in(walk, c.square);
+    if span.first < span.last {
+        add_node(table, walk, sign, c, span, left);
+    }
+}
+
+// Adds an edge to the table of the tile of side 2^depth, or takes it out where the sign is -1.
 pub fn add_edge(table: &mut [i64], e: Edge, view: View, sign: i64, depth: usize)
     requires { ⌜ Fits (now table) depth 1 × InView view depth e × Within (pos 1) sign ⌝ }
     ensures { λ _. ⌜ now (table .exit) ≡ added (now (table .entry)) (λ i. sign *ℤ entryOf depth (partTable view depth e) i) ⌝ }
 {
     let tile = tile_of(depth);
-    let walk = edge::walk_of(seen_by(view, e));
-    add_at(table, 0, sign, root_part(view, walk, tile.square, depth));
-    if depth > 0 {
-        let span = edge::span_in(walk, tile.square);
-        if span.first < span.last {
-            add_node(table, walk, sign, tile, span, depth);
-        }
+    let seen = seen_by(view, e);
+    add_at(table, 0, sign, root_part(view, seen, tile.square, depth));
+    let c = descend_on(table, seen, sign, depth);
+    if c.level < depth {
+        add_below(table, seen, sign, c, depth - c.level);
     }
 }
 

@@ -1,4 +1,4 @@
--- Nothing where no step is inside; the ends' distances where the edge is in one quarter; the cuts otherwise.
+-- The cuts where some step is inside, and else nothing.
 use mathlib.Core.Path.{_≡_, sym, _∙_, ap, subst⁻¹}
 use mathlib.Core.List.{[], _∷_}
 use lib.IntN.{ℤ, pos, _+ℤ_}
@@ -40,33 +40,21 @@ module _ (c : tie.After-half-of) where
   half≥0 : pos 0 ≤ℤ half
   half≥0 = subst⁻¹ (λ z. pos 0 ≤ℤ z) half-is (c .half-of .ensures .1)
 
-same-quarter-requires : tie.Need-same-quarter-requires
-same-quarter-requires c κs = (start c .pre .1, even c, half≥0 c)
-
-quarter-details-requires : tie.Need-quarter-details-requires
-quarter-details-requires c κs =
-    let k = c .before .before in
-    (start k .pre .1, even k, half≥0 k, c .before .same-quarter .ensures .yes (c .if2 .taken))
-
 cut-details-requires : tie.Need-cut-details-requires
 cut-details-requires c κs =
-    let k = c .before .before in
-    let s = start k in
+    let s = start c in
     let t = s .args .s in
-    let g = k .before .before .before .struct-told .given in
+    let g = c .before .before .before .struct-told .given in
     let i : SFits w64 (t .first) = record { sfits = g .0 .1 } in
     let j : SFits w64 (t .last) = record { sfits = g .1 .0 .1 } in
     let l : t .first <ℤ t .last = search tests in
-    (s .pre .0, s .pre .1, even k, half≥0 k, s .pre .2, l)
+    (s .pre .0, s .pre .1, even c, half≥0 c, s .pre .2, l)
 
 returns : tie.Need-returns
 returns c = search needs
 
 returns-2 : tie.Need-returns-2
-returns-2 c = search needs
-
-returns-3 : tie.Need-returns-3
-returns-3 c =
+returns-2 c =
     let s = c .before .before .before in
     let t = s .args .s in
     let p = s .pre in
@@ -79,4 +67,4 @@ returns-3 c =
 
 pub details-over-spec : {M : Type 1} → statement M
 details-over-spec =
-    tie.close (tie.spec half-of-requires same-quarter-requires quarter-details-requires cut-details-requires returns returns-2 returns-3)
+    tie.close (tie.spec half-of-requires cut-details-requires returns returns-2)

@@ -1,206 +1,175 @@
--- The details of an edge in one quarter, by the distances of its ends to the nearer sides.
-use mathlib.Core.Path.{_≡_, sym, _∙_, ap₂}
-use mathlib.Core.List.{[], _∷_}
-use Prim.Native.Nat.{ℕ, _<_, _+_, _*_, _^_}
-use lib.IntN.{ℤ, pos, _+ℤ_, _-ℤ_, _*ℤ_}
+-- The details of an edge in one quarter, by the distances of its ends from the sides of that quarter.
+use mathlib.Core.Path.{_≡_, refl, sym, _∙_, ap, ap₂}
+use Prim.Native.Nat.{ℕ, zero, suc, _<_, _+_, _*_, _^_}
+use lib.IntN.{ℤ, pos, negℤ, _+ℤ_, _-ℤ_, _*ℤ_}
 use lib.Signed.{mag}
-use Rattle.integers.specs.Order.{≤ℤ-trans}
-use Rattle.integers.specs.Linear.{le, _&_, linear, lin≤}
+use mir.Facts.{toZ-ofZ}
 use Rattle.integers.specs.Units.{widthTimesExtentLimit}
-use Rattle.integers.specs.Within.{Within, bounds}
-use Rattle.integers.specs.MinMax.{min, min-≤ˡ, min-greatest}
-use Rattle.edge.specs.declared.Edge.{Edge}
-use Rattle.edge.specs.declared.Cell.{Cell}
-use Rattle.edge.specs.Walk.{dx, dy}
-use Rattle.edge.specs.Room.{coordinateLimit, extentLimit}
-use Rattle.edge.proofs.InQuarter.{toNearer, quarterH, quarterV, quarterD, in-cell, in-quarter}
+use Rattle.integers.specs.Within.{Within, within-le, within-self, within-add, within-sub}
 use Rattle.integers.specs.Bits.{back, back-is, result-is}
-use Rattle.edge.specs.Nested.{OnRange, OnCell}
-use Rattle.edge.specs.Lemmas.Records.{details-eq}
 use Rattle.integers.specs.Held.{Held, held-add, held-sub, held-neg, held-mul, held-fits, held-back, held-within}
-use Rattle.edge.proofs.Sizes.{difference, width-within}
+use Rattle.edge.specs.declared.Details.{Details}
+use Rattle.edge.specs.Walk.{dx, dy}
+use Rattle.edge.specs.Rounded.{details}
+use Rattle.edge.specs.Room.{coordinateLimit, extentLimit}
+use Rattle.edge.specs.Code.{fromSides}
+use Rattle.edge.specs.Lemmas.Records.{details-eq}
+use Rattle.edge.proofs.Sizes.{coordinate, difference, width-within, half-high}
+use Rattle.edge.proofs.InQuarter.{turned, pastMiddle, quarterH, quarterV, quarterD, in-quarter}
 use Rattle.edge.proofs.quarter_details.Statement.{statement}
 use Rattle.edge.proofs.quarter_details.Tie as tie
 
-abbrev limit : ℕ
-limit = widthTimesExtentLimit
+abbrev pastLimit : ℕ
+pastLimit = (coordinateLimit + extentLimit) + (coordinateLimit + extentLimit)
 
--- ---- a point p between two sides
-module _ {side w p : ℤ} (o : OnRange side w p) (k : Within (pos limit) w) where
-  offset-within : Within (pos limit) (p -ℤ side)
-  offset-within = record {
-    low = lin≤ (side ∷ p ∷ []) (le (o .low)) (search linear depth 40) tt;
-    high = lin≤ (side ∷ w ∷ p ∷ []) (le (o .high) & bounds k) (search linear depth 40) tt;
-  }
+sides-within : (i : ℕ) {w u : ℤ} → Within (pos widthTimesExtentLimit) w → Within (pos pastLimit) u
+    → Within (pos (widthTimesExtentLimit + pastLimit)) (fromSides i w u)
+sides-within zero k l = within-add k l
+sides-within (suc i) k l = within-sub k l
 
-  nearer-within : Within (pos limit) (toNearer side w p)
-  nearer-within =
-      record {
-        low = min-greatest (offset-within .low) (lin≤ (side ∷ w ∷ p ∷ []) (le (o .high)) (search linear depth 40) tt);
-        high = ≤ℤ-trans (min-≤ˡ (p -ℤ side) (w -ℤ (p -ℤ side))) (offset-within .high);
-      }
-
--- ---- the four calls
+-- ---- the two calls
 module _ (s : tie.Start) where
-  on : OnCell (s .args .c) (s .args .e)
-  on = in-cell (s .pre .1) (s .pre .2) (s .pre .3)
-
   abbrev w : ℤ
   w = s .args .c .width
 
-  width : Held limit (back w) w
+  abbrev half : ℤ
+  half = s .args .half
+
+  width : Held widthTimesExtentLimit (back w) w
   width = let k = width-within (s .pre .0) in record { is = back-is tt k; within = k }
 
-  module _ {side p : ℤ} (i : Within (pos coordinateLimit) side) (j : Within (pos coordinateLimit) p) (o : OnRange side w p) where
-    offset : Held limit (back (back p -ℤ back side)) (p -ℤ side)
-    offset = record { is = held-back tt (difference i j) .is; within = offset-within o (width .within) }
+  half-held : Held widthTimesExtentLimit (back half) half
+  half-held = record { is = toZ-ofZ (s .fits .half); within = within-le (half-high (s .pre .0) (s .pre .1) (s .pre .2)) (within-self (s .pre .2)) }
 
-    asked : Within (pos limit) (back w) × Within (pos limit) (back (back p -ℤ back side))
-    asked = (held-within width, held-within offset)
+  module _ {side : ℤ} (i : Within (pos coordinateLimit) side) where
+    middle : Held extentLimit (back side +ℤ back half) (side +ℤ half)
+    middle = held-add (coordinate i) half-held
 
-    answered : {z : ℤ} → mag z < 2 ^ 63 → z ≡ min (back (back p -ℤ back side)) (back w -ℤ back (back p -ℤ back side))
-        → Held limit (back z) (toNearer side w p)
-    answered f e = record { is = result-is f (e ∙ ap₂ (λ m u. min u (m -ℤ u)) (width .is) (offset .is)); within = nearer-within o (width .within) }
+    module _ {p q : ℤ} (j : Within (pos coordinateLimit) p) (k : Within (pos coordinateLimit) q) where
+      asked : Within (pos coordinateLimit) (back p) × Within (pos coordinateLimit) (back q)
+          × Within (pos extentLimit) (back (back side +ℤ back half)) × Within (pos widthTimesExtentLimit) (back w)
+      asked = (held-within (coordinate j), held-within (coordinate k), held-within (held-back tt middle), held-within width)
 
--- from one answer back to the one before: six `before`s
-abbrev start : tie.After-nearer → tie.Start
+      past-held : Held pastLimit (pastMiddle (back (back side +ℤ back half)) (back p) (back q)) (pastMiddle (side +ℤ half) p q)
+      past-held = held-add (held-sub (coordinate j) (held-back tt middle)) (held-sub (coordinate k) (held-back tt middle))
+
+      answered : (a : ℕ) {z : ℤ} → mag z < 2 ^ 63 → z ≡ fromSides a (back w) (pastMiddle (back (back side +ℤ back half)) (back p) (back q))
+          → Held (widthTimesExtentLimit + pastLimit) (back z) (fromSides a w (pastMiddle (side +ℤ half) p q))
+      answered a f e = record {
+        is = result-is f (e ∙ ap₂ (fromSides a) (width .is) (past-held .is));
+        within = sides-within a (width .within) (past-held .within);
+      }
+
+-- ---- h and v
+abbrev start : tie.After-from-sides → tie.Start
 start c = c .before .before .before .before .before .before
 
-abbrev start-2 : tie.After-nearer2 → tie.Start
-start-2 c = start (c .before .before .before .before .before .before)
+abbrev first : tie.After-from-sides2 → tie.After-from-sides
+first c = c .before .before .before .before .before .before .before .before
 
-abbrev start-3 : tie.After-nearer3 → tie.Start
-start-3 c = start-2 (c .before .before .before .before .before .before)
+abbrev detailLimit : ℕ
+detailLimit = (widthTimesExtentLimit + pastLimit) * extentLimit
 
-abbrev start-4 : tie.After-nearer4 → tie.Start
-start-4 c = start-3 (c .before .before .before .before .before .before)
-
-sub-nearer : tie.Need-sub-nearer
-sub-nearer c = let r = c .before .before .before .before .pre .0 in held-fits tt (difference (r .left) (r .edge .x0))
-
-nearer-requires : tie.Need-nearer-requires
-nearer-requires c κs =
-    let s = c .before .before .before .before .before in
-    let r = s .pre .0 in
-    asked s (r .left) (r .edge .x0) (on s .x0)
-
-sub-nearer-2 : tie.Need-sub-nearer-2
-sub-nearer-2 c = let r = start (c .before .before .before .before) .pre .0 in held-fits tt (difference (r .top) (r .edge .y0))
-
-nearer-requires-2 : tie.Need-nearer-requires-2
-nearer-requires-2 c κs =
-    let s = start (c .before .before .before .before .before) in
-    let r = s .pre .0 in
-    asked s (r .top) (r .edge .y0) (on s .y0)
-
-sub-nearer-3 : tie.Need-sub-nearer-3
-sub-nearer-3 c = let r = start-2 (c .before .before .before .before) .pre .0 in held-fits tt (difference (r .left) (r .edge .x1))
-
-nearer-requires-3 : tie.Need-nearer-requires-3
-nearer-requires-3 c κs =
-    let s = start-2 (c .before .before .before .before .before) in
-    let r = s .pre .0 in
-    asked s (r .left) (r .edge .x1) (on s .x1)
-
-sub-nearer-4 : tie.Need-sub-nearer-4
-sub-nearer-4 c = let r = start-3 (c .before .before .before .before) .pre .0 in held-fits tt (difference (r .top) (r .edge .y1))
-
-nearer-requires-4 : tie.Need-nearer-requires-4
-nearer-requires-4 c κs =
-    let s = start-3 (c .before .before .before .before .before) in
-    let r = s .pre .0 in
-    asked s (r .top) (r .edge .y1) (on s .y1)
-
--- ---- the three details
-module _ (c : tie.After-nearer4) where
+module _ (c : tie.After-from-sides) where
   abbrev s : tie.Start
-  s = start-4 c
+  s = start c
 
-  abbrev e : Edge
-  e = s .args .e
-
-  abbrev cell : Cell
-  cell = s .args .c
-
-  abbrev third : tie.After-nearer3
-  third = c .before .before .before .before .before .before
-
-  abbrev second : tie.After-nearer2
-  second = third .before .before .before .before .before .before
-
-  abbrev first : tie.After-nearer
-  first = second .before .before .before .before .before .before
-
-  tx0 : Held limit (back (first .nearer .result)) (toNearer (cell .left) (cell .width) (e .x0))
-  tx0 = answered s (s .pre .0 .left) (s .pre .0 .edge .x0) (on s .x0) (first .nearer .ok) (first .nearer .ensures)
-
-  ty0 : Held limit (back (second .nearer2 .result)) (toNearer (cell .top) (cell .width) (e .y0))
-  ty0 = answered s (s .pre .0 .top) (s .pre .0 .edge .y0) (on s .y0) (second .nearer2 .ok) (second .nearer2 .ensures)
-
-  tx1 : Held limit (back (third .nearer3 .result)) (toNearer (cell .left) (cell .width) (e .x1))
-  tx1 = answered s (s .pre .0 .left) (s .pre .0 .edge .x1) (on s .x1) (third .nearer3 .ok) (third .nearer3 .ensures)
-
-  ty1 : Held limit (back (c .nearer4 .result)) (toNearer (cell .top) (cell .width) (e .y1))
-  ty1 = answered s (s .pre .0 .top) (s .pre .0 .edge .y1) (on s .y1) (c .nearer4 .ok) (c .nearer4 .ensures)
-
-  run-x : Held extentLimit (back (e .x1) -ℤ back (e .x0)) (dx e)
-  run-x = difference (s .pre .0 .edge .x0) (s .pre .0 .edge .x1)
-
-  run-y : Held extentLimit (back (e .y1) -ℤ back (e .y0)) (dy e)
+  run-y : Held extentLimit (back (s .args .e .y1) -ℤ back (s .args .e .y0)) (dy (s .args .e))
   run-y = difference (s .pre .0 .edge .y0) (s .pre .0 .edge .y1)
 
-  h-held : Held ((limit + limit) * extentLimit)
-      (back (back (first .nearer .result) +ℤ back (third .nearer3 .result)) *ℤ back (back (e .y1) -ℤ back (e .y0))) (quarterH e cell)
-  h-held = held-mul (held-back tt (held-add tx0 tx1)) (held-back tt run-y)
+  h-held : Held detailLimit (back (c .from-sides .result) *ℤ back (back (s .args .e .y1) -ℤ back (s .args .e .y0)))
+      (quarterH (s .args .e) (s .args .c) (s .args .half) (s .args .x))
+  h-held =
+      let r = s .pre .0 in
+      held-mul (answered s (r .left) (r .edge .x0) (r .edge .x1) (s .args .x) (c .from-sides .ok) (c .from-sides .ensures)) (held-back tt run-y)
 
-  v-held : Held ((limit + limit) * extentLimit)
-      (pos 0 -ℤ back (back (back (second .nearer2 .result) +ℤ back (c .nearer4 .result)) *ℤ back (back (e .x1) -ℤ back (e .x0)))) (quarterV e cell)
-  v-held = held-neg (held-back tt (held-mul (held-back tt (held-add ty0 ty1)) (held-back tt run-x)))
+module _ (c : tie.After-from-sides2) where
+  abbrev s′ : tie.Start
+  s′ = start (first c)
 
-  d-held : Held ((limit + limit) * (limit + limit))
-      (back (back (first .nearer .result) +ℤ back (third .nearer3 .result)) *ℤ back (back (c .nearer4 .result) -ℤ back (second .nearer2 .result))) (quarterD e cell)
-  d-held = held-mul (held-back tt (held-add tx0 tx1)) (held-back tt (held-sub ty1 ty0))
+  run-x : Held extentLimit (back (s′ .args .e .x1) -ℤ back (s′ .args .e .x0)) (dx (s′ .args .e))
+  run-x = difference (s′ .pre .0 .edge .x0) (s′ .pre .0 .edge .x1)
 
-add-t8 : tie.Need-add-t8
-add-t8 c = held-fits tt (held-add (tx0 c) (tx1 c))
+  product : Held detailLimit (back (c .from-sides2 .result) *ℤ back (back (s′ .args .e .x1) -ℤ back (s′ .args .e .x0)))
+      (fromSides (s′ .args .y) (s′ .args .c .width) (pastMiddle (s′ .args .c .top +ℤ s′ .args .half) (s′ .args .e .y0) (s′ .args .e .y1)) *ℤ dx (s′ .args .e))
+  product =
+      let r = s′ .pre .0 in
+      held-mul (answered s′ (r .top) (r .edge .y0) (r .edge .y1) (s′ .args .y) (c .from-sides2 .ok) (c .from-sides2 .ensures)) (held-back tt run-x)
 
-sub-t9 : tie.Need-sub-t9
-sub-t9 c = held-fits tt (run-y (c .before .before))
+  v-held : Held detailLimit (pos 0 -ℤ back (back (c .from-sides2 .result) *ℤ back (back (s′ .args .e .x1) -ℤ back (s′ .args .e .x0))))
+      (quarterV (s′ .args .e) (s′ .args .c) (s′ .args .half) (s′ .args .y))
+  v-held = held-neg (held-back tt product)
 
-mul-t10 : tie.Need-mul-t10
-mul-t10 c = held-fits tt (h-held (c .before .before))
+  -- h turned, where d is that
+  turned-held : Held detailLimit (pos 0 -ℤ back (back (first c .from-sides .result) *ℤ back (back (s′ .args .e .y1) -ℤ back (s′ .args .e .y0))))
+      (negℤ (quarterH (s′ .args .e) (s′ .args .c) (s′ .args .half) (s′ .args .x)))
+  turned-held = held-neg (held-back tt (h-held (first c)))
 
-add-t11 : tie.Need-add-t11
-add-t11 c = let u = c .before .before in held-fits tt (held-add (ty0 u) (ty1 u))
+add-from-sides : tie.Need-add-from-sides
+add-from-sides c = let s = c .before .before in held-fits tt (middle s (s .pre .0 .left))
 
-sub-t12 : tie.Need-sub-t12
-sub-t12 c = held-fits tt (run-x (c .before .before .before .before))
+from-sides-requires : tie.Need-from-sides-requires
+from-sides-requires c κs =
+    let s = c .before .before .before .before .before in
+    let r = s .pre .0 in
+    asked s (r .left) (r .edge .x0) (r .edge .x1)
 
-mul-t13 : tie.Need-mul-t13
-mul-t13 c =
-    let u = c .before .before .before .before in
-    held-fits tt (held-mul (held-back tt (held-add (ty0 u) (ty1 u))) (held-back tt (run-x u)))
+sub-h : tie.Need-sub-h
+sub-h c = held-fits tt (run-y (c .before .before))
+
+mul-h : tie.Need-mul-h
+mul-h c = held-fits tt (h-held (c .before .before))
+
+add-from-sides-2 : tie.Need-add-from-sides-2
+add-from-sides-2 c = let s = start (c .before .before .before .before) in held-fits tt (middle s (s .pre .0 .top))
+
+from-sides-requires-2 : tie.Need-from-sides-requires-2
+from-sides-requires-2 c κs =
+    let s = start (c .before .before .before .before .before .before .before) in
+    let r = s .pre .0 in
+    asked s (r .top) (r .edge .y0) (r .edge .y1)
+
+sub-v : tie.Need-sub-v
+sub-v c = held-fits tt (run-x (c .before .before))
+
+mul-v : tie.Need-mul-v
+mul-v c = held-fits tt (product (c .before .before))
+
+sub-t13 : tie.Need-sub-t13
+sub-t13 c = held-fits tt (v-held (c .before .before .before))
 
 sub-t14 : tie.Need-sub-t14
-sub-t14 c = held-fits tt (v-held (c .before .before .before .before))
+sub-t14 c = held-fits tt (v-held (c .before .before .before))
 
-add-t15 : tie.Need-add-t15
-add-t15 c = add-t8 (c .before .before .before .before)
+sub-t15 : tie.Need-sub-t15
+sub-t15 c = held-fits tt (turned-held (c .before .before .before))
 
-sub-t16 : tie.Need-sub-t16
-sub-t16 c = let u = c .before .before .before .before in held-fits tt (held-sub (ty1 u) (ty0 u))
+lower : (j : ℕ) (z : ℤ) → (j ≡ 0 → ⊥) → negℤ z ≡ turned j z
+lower zero z k = absurd (k refl)
+lower (suc j) z k = refl
 
-mul-t17 : tie.Need-mul-t17
-mul-t17 c = held-fits tt (d-held (c .before .before .before .before))
+-- what the code makes is what the law says
+module _ (c : tie.After-from-sides2) where
+  all-in-quarter : {h v d : ℤ} → h ≡ quarterH (s′ c .args .e) (s′ c .args .c) (s′ c .args .half) (s′ c .args .x)
+      → v ≡ quarterV (s′ c .args .e) (s′ c .args .c) (s′ c .args .half) (s′ c .args .y)
+      → d ≡ quarterD (s′ c .args .e) (s′ c .args .c) (s′ c .args .half) (s′ c .args .x) (s′ c .args .y)
+      → _≡_ {A = Details} (record { h = h; v = v; d = d }) (details (s′ c .args .e) (s′ c .args .c))
+  all-in-quarter i j k = let p = s′ c .pre in details-eq i j k ∙ sym (in-quarter (s′ c .args .e) (s′ c .args .c) (p .1) (p .2) (p .3) (p .4) (p .5))
 
 returns : tie.Need-returns
 returns c =
-    let u = c .before .before .before .before in
-    let p = s u .pre in
-    details-eq (held-back tt (h-held u) .is) (held-back tt (v-held u) .is) (held-back tt (d-held u) .is) ∙ sym (in-quarter (p .1) (p .2) (p .3))
+    let u = c .before .before .before in
+    let h = held-back tt (h-held (first u)) .is in
+    all-in-quarter u h (held-back tt (v-held u) .is)
+    (h ∙ ap (λ j. turned j (quarterH (s′ u .args .e) (s′ u .args .c) (s′ u .args .half) (s′ u .args .x))) (sym (c .if1 .taken)))
+
+returns-2 : tie.Need-returns-2
+returns-2 c =
+    let u = c .before .before .before in
+    all-in-quarter u (held-back tt (h-held (first u)) .is) (held-back tt (v-held u) .is)
+    (held-back tt (turned-held u) .is ∙ lower (s′ u .args .y) (quarterH (s′ u .args .e) (s′ u .args .c) (s′ u .args .half) (s′ u .args .x)) (c .if1 .left))
 
 pub quarter-details-spec : {M : Type 1} → statement M
 quarter-details-spec =
     tie.close
-    (tie.spec sub-nearer nearer-requires sub-nearer-2 nearer-requires-2 sub-nearer-3 nearer-requires-3 sub-nearer-4 nearer-requires-4 add-t8 sub-t9 mul-t10 add-t11 sub-t12 mul-t13
-    sub-t14 add-t15 sub-t16 mul-t17 returns)
+    (tie.spec add-from-sides from-sides-requires sub-h mul-h add-from-sides-2 from-sides-requires-2 sub-v mul-v sub-t13 sub-t14 sub-t15 returns returns-2)

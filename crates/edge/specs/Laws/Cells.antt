@@ -2,13 +2,14 @@
 --
 -- Main results
 --   contains-refl, contains-trans, contains-quarter      down the quadtree every cell lies in the one that it began with
+--   half-below, quarter-on                               an edge in a cell lies in a quarter, where `half_with` has found a half both ways
 --   extent-at-most, extent-times                         bounds of an extent
 --   difference-on, product-on                            two coordinates between two sides are at most the width apart; the product of two
 --                                                        between 0 and w is between 0 and w²
 --   sheet-measured                                       an edge on a sheet is in range
 --   sheet-room                                           so it has room in each even cell of the sheet whose width times the sheet's is in range
 --   details-on                                           the three details of an edge on a sheet, in a cell: at most the two widths' product
-use mathlib.Core.Path.{_≡_}
+use mathlib.Core.Path.{_≡_, subst⁻¹}
 use mathlib.Core.List.{[], _∷_}
 use Prim.Native.Nat.{ℕ, zero, suc, _<_}
 use native.Mathlib.Omega.{arith}
@@ -25,6 +26,7 @@ use Rattle.edge.specs.Walk.{extent, dx, dy}
 use Rattle.edge.specs.Room.{coordinateLimit, Measured, Even, Room}
 use Rattle.edge.specs.Rounded.{details, DetailsWithin}
 use Rattle.edge.specs.Nested.{quarter, Contains, OnRange, OnCell, Sheet}
+use Rattle.edge.specs.Code.{HalfWith, first, second, neither}
 use Rattle.edge.specs.Laws.Bounds.{rounded-h-bound, rounded-v-bound, rounded-d-bound}
 
 -- ---- cells in cells
@@ -58,6 +60,38 @@ contains-quarter c half e h i j k l =
     let x = half-in (c .left) e h i k in
     let y = half-in (c .top) e h j l in
     record { left = x .0; right = x .1; top = y .0; bottom = y .1 }
+
+-- ---- an edge in a cell lies in a quarter, where each of its directions stays in one half
+pub half-below : {middle p q : ℤ} {r : ℕ} → HalfWith middle p q r → (r ≡ 2 → ⊥) → r < 2
+half-below (first e i j) n = omega arith
+half-below (second e i j) n = omega arith
+half-below (neither e i j) n = absurd (n e)
+
+half-on : {side w half p q : ℤ} {r : ℕ} → w ≡ half +ℤ half → OnRange side w p → OnRange side w q → HalfWith (side +ℤ half) p q r → (r ≡ 2 → ⊥)
+    → OnRange (side +ℤ pos r *ℤ half) half p × OnRange (side +ℤ pos r *ℤ half) half q
+half-on {side} {w} {half} {p} {q} m i j (first e k l) n = subst⁻¹ (λ r. OnRange (side +ℤ pos r *ℤ half) half p × OnRange (side +ℤ pos r *ℤ half) half q) e (on p i k, on q j l)
+  where
+    on : (x : ℤ) → OnRange side w x → x ≤ℤ (side +ℤ half) → OnRange (side +ℤ pos 0 *ℤ half) half x
+    on x o h = record {
+      low = lin≤ (side ∷ half ∷ x ∷ []) (le (o .low)) (search linear depth 40) tt;
+      high = lin≤ (side ∷ half ∷ x ∷ []) (le h) (search linear depth 40) tt;
+    }
+half-on {side} {w} {half} {p} {q} m i j (second e k l) n = subst⁻¹ (λ r. OnRange (side +ℤ pos r *ℤ half) half p × OnRange (side +ℤ pos r *ℤ half) half q) e (on p i k, on q j l)
+  where
+    on : (x : ℤ) → OnRange side w x → (side +ℤ half) ≤ℤ x → OnRange (side +ℤ pos 1 *ℤ half) half x
+    on x o h = record {
+      low = lin≤ (side ∷ half ∷ x ∷ []) (le h) (search linear depth 40) tt;
+      high = lin≤ (side ∷ half ∷ w ∷ x ∷ []) (le (o .high) & eq m) (search linear depth 40) tt;
+    }
+half-on m i j (neither e k l) n = absurd (n e)
+
+pub quarter-on : (c : Cell) (half : ℤ) {e : Edge} {x y : ℕ} → c .width ≡ half +ℤ half → OnCell c e
+    → HalfWith (c .left +ℤ half) (e .x0) (e .x1) x → (x ≡ 2 → ⊥) → HalfWith (c .top +ℤ half) (e .y0) (e .y1) y → (y ≡ 2 → ⊥)
+    → OnCell (quarter c half x y) e
+quarter-on c half m o i h j k =
+    let x = half-on m (o .x0) (o .x1) i h in
+    let y = half-on m (o .y0) (o .y1) j k in
+    record { x0 = x .0; y0 = y .0; x1 = x .1; y1 = y .1 }
 
 -- ---- room
 -- a bound of at least 1 on a number bounds its extent too

@@ -6,11 +6,14 @@
 --   on-sheet-details                                 and its details there are small
 --   on-sheet-contains, on-sheet-quarter              its quarters lie in it, and on the sheet like it
 --   quarter-on-sheet, quarter-outside                the same of quarter q of a cell; an edge outside the cell is outside the quarter
+--   quarter-beside                                   an edge in one quarter is outside the others
 use mathlib.Core.Path.{_≡_, sym, _∙_, ap}
 use mathlib.Core.List.{[], _∷_}
+use mathlib.Core.Logic.{_≢_}
 use Prim.Native.Nat.{ℕ, suc, _*_, _/_, _%_, _^_, _<_}
 use native.Mathlib.Omega.{arith}
 use native.Mathlib.Nat.{pow-suc}
+use native.Mathlib.Decide.{ℕ-discrete}
 use lib.IntN.{ℤ, pos, natAbs, _+ℤ_, _*ℤ_}
 use lib.Signed.{_≤ℤ_}
 use Rattle.integers.specs.Units.{widthTimesExtentLimit}
@@ -21,9 +24,10 @@ use Rattle.edge.specs.declared.Cell.{Cell as Square}
 use Rattle.edge.specs.Inside.{Inside}
 use Rattle.edge.specs.Room.{Even, Room}
 use Rattle.edge.specs.Rounded.{details}
-use Rattle.edge.specs.Nested.{Contains, quarter}
+use Rattle.edge.specs.Nested.{Contains, OnCell, quarter}
 use Rattle.edge.specs.Laws.Cells.{contains-trans, contains-quarter, sheet-room, details-on}
 use Rattle.edge.specs.Laws.Zero.{inside-wider}
+use Rattle.edge.specs.Laws.Beside.{other-column, other-row}
 use Rattle.rasterize.specs.declared.Node.{Node}
 use Rattle.rasterize.specs.Nodes.{quarters, halfWidth, quarterNode}
 use Rattle.rasterize.specs.Ready.{SmallDetails, OnSheet}
@@ -85,3 +89,14 @@ quarter-on-sheet c q h p = on-sheet-quarter p (q % 2) (q / 2) (omega arith) (ome
 pub quarter-outside : {e : Edge} {left : ℕ} (c : Node) (q : ℕ) → q < quarters → OnSheet e (suc left) (c .square) → (Inside e (c .square) → ⊥)
     → Inside e (quarterNode c q .square) → ⊥
 quarter-outside {e} c q h p out i = out (inside-wider e (on-sheet-contains p (q % 2) (q / 2) (omega arith) (omega arith)) i)
+
+pub quarter-beside : {e : Edge} (c : Node) (q r : ℕ) → q < quarters → r < quarters → r ≢ q → OnCell (quarterNode c q .square) e
+    → Inside e (quarterNode c r .square) → ⊥
+quarter-beside {e} c q r h k n o = go (ℕ-discrete (q % 2) (r % 2))
+  where
+    half : ℤ
+    half = halfWidth (c .square)
+
+    go : Dec (q % 2 ≡ r % 2) → Inside e (quarterNode c r .square) → ⊥
+    go (yes s) = other-row e (c .square) half {i = q % 2} (omega arith) (omega arith) o (r % 2) (r / 2) (omega arith) (λ t. n (omega arith))
+    go (no s) = other-column e (c .square) half {j = q / 2} (omega arith) (omega arith) o (r % 2) (r / 2) (omega arith) s
