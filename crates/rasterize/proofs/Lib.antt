@@ -1,7 +1,9 @@
 -- What the functions' proofs share.
 
--- a cell quarter by quarter, the way down to the smallest cell that an edge lies in, a contour edge by edge, and an outline contour by contour
+-- a cell quarter by quarter, and in the order of a slanted walk; the way down to the smallest cell that an edge lies in, a contour edge by edge, and an outline contour by contour
 pub mod QuarterLoop
+pub mod SlantedLoop
+pub mod SlantedBits
 pub mod Descending
 pub mod ContourLoop
 pub mod OutlineLoop

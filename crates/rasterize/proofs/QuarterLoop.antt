@@ -1,6 +1,8 @@
--- A cell quarter by quarter. A quarter inside which no part of the edge lies is passed over, and nothing is missed.
+-- A cell quarter by quarter, in an order that takes each of them once. A quarter inside which no part of the edge lies is passed over, and nothing is
+-- missed.
 --
 -- Main results
+--   Order, as-numbered                                such an order: all quarters together, whatever they add; that of their numbers
 --   OwnAdded, own-added                               the table when the cell has added its own details
 --   firstQuarters, QuarterLoop                        what the first q quarters add; the table when they have had the edge too
 --   quarters-start, quarters-step, quarters-skip      before the first quarter; to the next, when one had the edge or was passed over
@@ -42,24 +44,35 @@ use Rattle.rasterize.specs.Laws.OnSheet.{on-sheet-details, quarter-on-sh
 use Rattle.rasterize.specs.Laws.Contributions.{own-within, contribution-zero, contribution-suc, contribution-outside, contribution-within}
 use Rattle.rasterize.specs.Laws.ReadyCells.{ready-quarter}
 
+-- ---- which quarter comes when
+pub record Order (order : ℕ → ℕ) : Type 0 where
+  pub below : (q : ℕ) → q < quarters → order q < quarters
+  pub whole : (f : ℕ → ℤ) → Σ< quarters (λ q. f (order q)) ≡ Σ< quarters f
+
+abbrev pub asNumbered : ℕ → ℕ
+asNumbered q = q
+
+pub as-numbered : Order asNumbered
+as-numbered = record { below = λ q h. h; whole = λ f. refl }
+
 -- ---- the table on the way
-module _ (e : Edge) (c : Node) where
+module _ (order : ℕ → ℕ) (e : Edge) (c : Node) where
+  -- what the first q quarters add, with everything below them
+  abbrev pub firstQuarters : ℕ → ℕ → ℕ → ℤ
+  firstQuarters left q i = Σ< q (λ p. contribution e left (quarterNode c (order p)) i)
+
+module _ (e : Edge) (sign : ℤ) (c : Node) where
   -- what the cell's own details add
   abbrev own : ℕ → ℤ
   own i = ownPart (details e (c .square)) (firstDetail c) i
 
-  -- what the first q quarters add, with everything below them
-  abbrev pub firstQuarters : ℕ → ℕ → ℕ → ℤ
-  firstQuarters left q i = Σ< q (λ p. contribution e left (quarterNode c p) i)
-
-module _ (e : Edge) (sign : ℤ) (c : Node) where
   pub record OwnAdded (before entry : List ℤ) : Type 0 where
-    pub sum : entry ≡ added before (λ i. sign *ℤ own e c i)
+    pub sum : entry ≡ added before (λ i. sign *ℤ own i)
 
-  -- `entry` is the table when the cell has added its own details, `left` the number of levels below the cell
-  pub record QuarterLoop (left : ℕ) (entry table : List ℤ) (q : ℕ) : Type 0 where
-    pub reached : q ≤ quarters
-    pub sum : table ≡ added entry (λ i. sign *ℤ firstQuarters e c left q i)
+-- `entry` is the table when the cell has added its own details, `left` the number of levels below the cell
+pub record QuarterLoop (order : ℕ → ℕ) (e : Edge) (sign : ℤ) (c : Node) (left : ℕ) (entry table : List ℤ) (q : ℕ) : Type 0 where
+  pub reached : q ≤ quarters
+  pub sum : table ≡ added entry (λ i. sign *ℤ firstQuarters order e c left q i)
 
 module _ {e : Edge} {sign : ℤ} {c : Node} where
   pub own-added : {before entry : List ℤ} {w : Details} {first : ℕ} → w ≡ details e (c .square) → first ≡ firstDetail c
@@ -67,48 +80,49 @@ module _ {e : Edge} {sign : ℤ} {c : Node} where
   own-added {before} f g h = record { sum = h ∙ ap₂ (λ w first. added before (λ i. sign *ℤ ownPart w first i)) f g }
 
   pub own-length : {before entry : List ℤ} → OwnAdded e sign c before entry → length entry ≡ length before
-  own-length {before} o = ap length (o .sum) ∙ added-length before (λ i. sign *ℤ own e c i)
+  own-length {before} o = ap length (o .sum) ∙ added-length before (λ i. sign *ℤ own e sign c i)
 
-  pub quarters-start : (left : ℕ) (entry : List ℤ) → QuarterLoop e sign c left entry entry 0
-  quarters-start left entry = record {
+  pub quarters-start : (order : ℕ → ℕ) (left : ℕ) (entry : List ℤ) → QuarterLoop order e sign c left entry entry 0
+  quarters-start order left entry = record {
     reached = omega arith;
-    sum = sym (added-nothing entry sign (firstQuarters e c left 0) (λ i. Σ-zero (λ p. contribution e left (quarterNode c p) i)));
+    sum = sym (added-nothing entry sign (firstQuarters order e c left 0) (λ i. Σ-zero (λ p. contribution e left (quarterNode c (order p)) i)));
   }
 
-  module _ {left : ℕ} {entry table : List ℤ} {q : ℕ} (g : QuarterLoop e sign c left entry table q) where
+  module _ {order : ℕ → ℕ} {left : ℕ} {entry table : List ℤ} {q : ℕ} (g : QuarterLoop order e sign c left entry table q) where
     pub quarters-length : length table ≡ length entry
-    quarters-length = ap length (g .sum) ∙ added-length entry (λ i. sign *ℤ firstQuarters e c left q i)
+    quarters-length = ap length (g .sum) ∙ added-length entry (λ i. sign *ℤ firstQuarters order e c left q i)
 
-    pub quarters-step : {quarter : Node} {after : List ℤ} → q < quarters → quarter ≡ quarterNode c q
-        → after ≡ added table (λ i. sign *ℤ contribution e left quarter i) → QuarterLoop e sign c left entry after (q + 1)
+    pub quarters-step : {quarter : Node} {after : List ℤ} → q < quarters → quarter ≡ quarterNode c (order q)
+        → after ≡ added table (λ i. sign *ℤ contribution e left quarter i) → QuarterLoop order e sign c left entry after (q + 1)
     quarters-step {quarter} {after} h k s = record {
       reached = omega arith;
       sum = s
           ∙ ap₂ (λ t n. added t (λ i. sign *ℤ contribution e left n i)) (g .sum) k
-          ∙ added-signed entry sign (firstQuarters e c left q) (contribution e left (quarterNode c q)) (firstQuarters e c left (q + 1)) (λ i l. next i);
+          ∙ added-signed entry sign (firstQuarters order e c left q) (contribution e left (quarterNode c (order q))) (firstQuarters order e c left (q + 1)) (λ i l. next i);
     }
       where
-        next : (i : ℕ) → firstQuarters e c left q i +ℤ contribution e left (quarterNode c q) i ≡ firstQuarters e c left (q + 1) i
-        next i = let f : ℕ → ℤ = λ p. contribution e left (quarterNode c p) i in sym (ap (λ n. Σ< n f) (add-one q) ∙ Σ-suc q f)
+        next : (i : ℕ) → firstQuarters order e c left q i +ℤ contribution e left (quarterNode c (order q)) i ≡ firstQuarters order e c left (q + 1) i
+        next i = let f : ℕ → ℤ = λ p. contribution e left (quarterNode c (order p)) i in sym (ap (λ n. Σ< n f) (add-one q) ∙ Σ-suc q f)
 
   -- ---- the cell has added all of the edge
   module _ {left : ℕ} {before entry : List ℤ} (o : OwnAdded e sign c before entry) where
-    pub quarters-end : {table : List ℤ} {q : ℕ} → quarters ≤ q → QuarterLoop e sign c left entry table q
+    pub quarters-end : {order : ℕ → ℕ} {table : List ℤ} {q : ℕ} → Order order → quarters ≤ q → QuarterLoop order e sign c left entry table q
         → table ≡ added before (λ i. sign *ℤ contribution e (suc left) c i)
-    quarters-end {table} {q} h g =
+    quarters-end {order} {table} {q} once h g =
         let all : q ≡ quarters = omega (arith, g .reached) in
         g .sum
-        ∙ ap₂ (λ t n. added t (λ i. sign *ℤ firstQuarters e c left n i)) (o .sum) all
-        ∙ added-signed before sign (own e c) (firstQuarters e c left quarters) (contribution e (suc left) c) (λ i l. sym (contribution-suc e left c i))
+        ∙ ap₂ (λ t n. added t (λ i. sign *ℤ firstQuarters order e c left n i)) (o .sum) all
+        ∙ added-signed before sign (own e sign c) (firstQuarters order e c left quarters) (contribution e (suc left) c)
+        (λ i l. ap (λ z. own e sign c i +ℤ z) (once .whole (λ p. contribution e left (quarterNode c p) i)) ∙ sym (contribution-suc e left c i))
 
     -- below the last level nothing is added
     pub own-end : left ≡ 0 → entry ≡ added before (λ i. sign *ℤ contribution e (suc left) c i)
-    own-end z = quarters-end {q = quarters} (omega arith) (record {
+    own-end z = quarters-end {q = quarters} as-numbered (omega arith) (record {
       reached = omega arith;
-      sum = sym (added-nothing entry sign (firstQuarters e c left quarters) none);
+      sum = sym (added-nothing entry sign (firstQuarters asNumbered e c left quarters) none);
     })
       where
-        none : (i : ℕ) → firstQuarters e c left quarters i ≡ pos 0
+        none : (i : ℕ) → firstQuarters asNumbered e c left quarters i ≡ pos 0
         none i =
             Σ-cong quarters (λ p. contribution e left (quarterNode c p) i) (λ p. pos 0)
             (λ p l. ap (λ n. contribution e n (quarterNode c p) i) z ∙ contribution-zero e (quarterNode c p) i)
@@ -120,33 +134,34 @@ pub not-inside-of-span : {w : Walk} {s : Span} (cell : Square) → IsWalk w → 
 not-inside-of-span {w} {s} cell k e h i =
     lin⊥ (s .first ∷ s .last ∷ []) (le h & lt (subst⁻¹ (λ (z : Span). z .first <ℤ z .last) e (span-of-inside k cell i))) (search linear depth 40) tt
 
+pub quarters-skip : {order : ℕ → ℕ} {e : Edge} {sign : ℤ} {c : Node} {left : ℕ} {entry table after : List ℤ} {q : ℕ} {quarter : Node}
+    → OnSheet e (suc left) (c .square) → Order order → QuarterLoop order e sign c left entry table q → q < quarters → quarter ≡ quarterNode c (order q)
+    → (Inside e (quarter .square) → ⊥) → after ≡ table → QuarterLoop order e sign c left entry after (q + 1)
+quarters-skip {order} {e} {sign} {c} {left} {entry} {table} {after} {q} {quarter} o once g h k out s =
+    quarters-step g h k (s ∙ sym (added-nothing table sign (contribution e left quarter) none))
+  where
+    none : (i : ℕ) → contribution e left quarter i ≡ pos 0
+    none = contribution-outside left quarter (subst⁻¹ (λ n. OnSheet e left (n .square)) k (quarter-on-sheet c (order q) (once .below q h) o)) out
+
 -- ---- of a table, an edge and a cell that the call was ready for
 module _ {before : List ℤ} {e : Edge} {sign : ℤ} {left : ℕ} {c : Node} (r : Ready before e (suc left) c) where
-  pub quarters-skip : {entry table after : List ℤ} {q : ℕ} {quarter : Node} → QuarterLoop e sign c left entry table q → q < quarters → quarter ≡ quarterNode c q
-      → (Inside e (quarter .square) → ⊥) → after ≡ table → QuarterLoop e sign c left entry after (q + 1)
-  quarters-skip {entry} {table} {after} {q} {quarter} g h k out s =
-      quarters-step g h k (s ∙ sym (added-nothing table sign (contribution e left quarter) none))
-    where
-      none : (i : ℕ) → contribution e left quarter i ≡ pos 0
-      none = contribution-outside left quarter (subst⁻¹ (λ n. OnSheet e left (n .square)) k (quarter-on-sheet c q h (r .on-sheet))) out
-
   module _ (s : Within (pos 1) sign) {entry : List ℤ} (o : OwnAdded e sign c before entry) where
     -- the cell's own details have used up the room for one
     pub own-spare : Spare entry (quarters * visits left)
     unfolding visits
     own-spare = subst⁻¹ (λ t. Spare t (quarters * visits left)) (o .sum)
-        (spare-added 1 (quarters * visits left) (λ i. sign *ℤ own e c i)
+        (spare-added 1 (quarters * visits left) (λ i. sign *ℤ own e sign c i)
         (λ i h. signed-within s (own-within (on-sheet-details (r .on-sheet)) (firstDetail c) i)) (r .spare))
 
     -- each quarter before this one has used up its own
-    pub quarters-asks : {table : List ℤ} {q : ℕ} {quarter : Node} → QuarterLoop e sign c left entry table q → q < quarters → quarter ≡ quarterNode c q
-        → Ready table e left quarter
-    quarters-asks {table} {q} g h k = subst⁻¹ (Ready table e left) k
-        (ready-quarter r q h (quarters-length g ∙ own-length o) (subst⁻¹ (λ t. Spare t (visits left)) (g .sum)
-        (spare-added (q * visits left) (visits left) (λ i. sign *ℤ firstQuarters e c left q i) (λ i l. signed-within s (used i))
+    pub quarters-asks : {order : ℕ → ℕ} {table : List ℤ} {q : ℕ} {quarter : Node} → Order order → QuarterLoop order e sign c left entry table q → q < quarters
+        → quarter ≡ quarterNode c (order q) → Ready table e left quarter
+    quarters-asks {order} {table} {q} once g h k = subst⁻¹ (Ready table e left) k
+        (ready-quarter r (order q) (once .below q h) (quarters-length g ∙ own-length o) (subst⁻¹ (λ t. Spare t (visits left)) (g .sum)
+        (spare-added (q * visits left) (visits left) (λ i. sign *ℤ firstQuarters order e c left q i) (λ i l. signed-within s (used i))
         (spare-le (omega (arith, mul-le-mul-right (visits left) h)) own-spare))))
       where
-        used : (i : ℕ) → Within (pos (q * visits left * detailLimit)) (firstQuarters e c left q i)
+        used : (i : ℕ) → Within (pos (q * visits left * detailLimit)) (firstQuarters order e c left q i)
         used i = within-is (ap pos {y = q * visits left * detailLimit} (omega arith)) refl
-            (Σ-within q (λ p. contribution e left (quarterNode c p) i)
-            (λ p l. contribution-within left (quarterNode c p) (quarter-on-sheet c p (omega arith) (r .on-sheet)) i))
+            (Σ-within q (λ p. contribution e left (quarterNode c (order p)) i)
+            (λ p l. contribution-within left (quarterNode c (order p)) (quarter-on-sheet c (order p) (once .below p (omega arith)) (r .on-sheet)) i))

@@ -18,9 +18,10 @@
 // each is fetched, placed, when an edge that begins or ends there is made, so that no list of placed points is kept.
 ghost use mathlib.Core.Path.{_≡_};
 ghost use mathlib.Core.Bool.{true};
-ghost use Prim.Native.Nat.{_+_, _*_, _/_, _%_, _-_, _<_, _≤_};
+ghost use Prim.Native.Nat.{_+_, _*_, _/_, _%_, _-_, _^_, _<_, _≤_};
 ghost use lib.ListN.{length, getD, set};
 ghost use lib.IntN.{pos, _+ℤ_, _*ℤ_};
+ghost use lib.Signed.{_<ℤ_};
 ghost use Rattle.integers.specs.Within.{Within};
 ghost use Rattle.edge.specs.Cuts.{span as spanOf};
 ghost use Rattle.edge.specs.WalkOf.{IsWalk, Decides};
@@ -38,12 +39,17 @@ ghost use Rattle.rasterize.specs.Contribution.{ownPart, contribution};
 ghost use Rattle.rasterize.specs.Contour.{edgeOf};
 ghost use Rattle.rasterize.specs.Ready.{sumLimit, Spare, Ready, Splits, SmallDetails, squareOf, Descent, Fits};
 ghost use Rattle.rasterize.specs.Views.{seenBy, rootPart, partTable, viewTable, InView};
+ghost use Rattle.slanted.specs.Pieces.{Moving};
+ghost use Rattle.slanted.specs.Parts.{halfOn};
+ghost use Rattle.rasterize.specs.Slanted.{slope, piece, spot, wayOf, quarterSpot, SlantedReady, SlantedAdds};
 use edge::Cell;
 use edge::Details;
 use edge::Edge;
 use edge::Span;
 use edge::Walk;
 use placement::Placement;
+use slanted::Piece;
+use slanted::Slope;
 
 // The quarters of a cell.
 const QUARTERS: usize = 4;
@@ -57,6 +63,13 @@ pub struct Node {
     pub x: usize,
     pub y: usize,
     pub square: Cell,
+}
+
+// A cell of the quadtree by its level and numbers alone.
+pub struct Spot {
+    pub level: usize,
+    pub x: usize,
+    pub y: usize,
 }
 
 // A tile's upper left corner on its sheet, in steps.
@@ -186,6 +199,96 @@ fn add_node(table: &mut [i64], walk: Walk, sign: i64, c: Node, span: Span, left:
     }
 }
 
+// The half of a cell that a direction of this sign is in before its middle is crossed, 0, or after it, 1.
+fn half_on(sign: i64, k: usize) -> usize
+    requires { ⌜ k < 2 ⌝ }
+    ensures { λ r. ⌜ r ≡ halfOn sign k ⌝ }
+{
+    if sign < 0 { 1 - k } else { k }
+}
+
+// The quarter that is number q on a walk's way.
+fn quarter_on(p: Spot, l: Slope, q: usize) -> Spot
+    requires { ⌜ (q < quarters) × (p .level < greatestDepth) × (p .x < 2 ^ p .level) × (p .y < 2 ^ p .level) × Within (pos 1) (l .x) × Within (pos 1) (l .y) ⌝ }
+    ensures { λ r. ⌜ r ≡ quarterSpot p (wayOf l q) ⌝ }
+{
+    Spot {
+        level: p.level + 1,
+        x: 2 * p.x + half_on(l.x, q % 2),
+        y: 2 * p.y + half_on(l.y, q / 2),
+    }
+}
+
+// Adds a slanted walk's edge to a cell with some step inside, and to those of its quarters inside which some part of it lies, `left` levels in all; takes it
+// out where the sign is -1. The walk and the cell are known by the numbers of a slope, a spot and a piece: these are handed on one by one, since the
+// compiler hands a struct on through memory.
+fn add_slanted(
+    table: &mut [i64],
+    divisor: i64,
+    sx: i64,
+    sy: i64,
+    sign: i64,
+    level: usize,
+    x: usize,
+    y: usize,
+    first: i64,
+    last: i64,
+    mx: i64,
+    my: i64,
+    hx: i64,
+    hy: i64,
+    left: usize,
+)
+    requires { ⌜ (1 ≤ left) × SlantedReady (now table) (slope divisor sx sy) (spot level x y) (piece first last mx my hx hy) left × Within (pos 1) sign ⌝ }
+    ensures { λ _. ⌜ SlantedAdds (now (table .entry)) (now (table .exit)) sign (slope divisor sx sy) (spot level x y) (piece first last mx my hx hy) left ⌝ }
+{
+    let l = Slope {
+        divisor: divisor,
+        x: sx,
+        y: sy,
+    };
+    let k = Piece {
+        first: first,
+        last: last,
+        middle_x: mx,
+        middle_y: my,
+        half_x: hx,
+        half_y: hy,
+    };
+    let w = slanted::details_of(l, k);
+    add_details(table, haar::first_detail(level, x, y), sign, w);
+    if left > 1 {
+        let p = Spot {
+            level: level,
+            x: x,
+            y: y,
+        };
+        for q in 0..QUARTERS {
+            let r = slanted::part_of(k, q);
+            if r.first < r.last {
+                let n = quarter_on(p, l, q);
+                add_slanted(
+                    table,
+                    divisor,
+                    sx,
+                    sy,
+                    sign,
+                    n.level,
+                    n.x,
+                    n.y,
+                    r.first,
+                    r.last,
+                    r.middle_x,
+                    r.middle_y,
+                    r.half_x,
+                    r.half_y,
+                    left - 1,
+                );
+            }
+        }
+    }
+}
+
 // Do p and q lie from 0 to the width?
 fn lie_across(p: i64, q: i64, width: i64) -> bool
     ensures { λ b. ⌜ Decides b (OnRange (pos 0) width p × OnRange (pos 0) width q) ⌝ }
@@ -239,6 +342,44 @@ fn descend_on(table: &mut [i64], e: Edge, sign: i64, depth: usize) -> Node
     }
 }
 
+// Does the walk move in both directions?
+fn is_slanted(w: Walk) -> bool
+    requires { ⌜ IsWalk w ⌝ }
+    ensures { λ b. ⌜ Decides b (Moving (w .x) × Moving (w .y)) ⌝ }
+{
+    w.x.sign != 0 && w.y.sign != 0
+}
+
+// Adds a walk's edge, of which some part lies inside a cell, to the cell and to those below it, `left` levels in all; takes it out where the sign is -1.
+fn add_inside(table: &mut [i64], walk: Walk, sign: i64, c: Node, span: Span, left: usize)
+    requires { ⌜ (1 ≤ left) × Ready (now table) (walk .edge) left c × IsWalk walk × (span ≡ spanOf (walk .x) (walk .y) (c .square) (walk .steps)) × (span .first <ℤ span .last) × Within (pos 1) sign ⌝ }
+    ensures { λ _. ⌜ now (table .exit) ≡ added (now (table .entry)) (λ i. sign *ℤ contribution (walk .edge) left c i) ⌝ }
+{
+    if is_slanted(walk) {
+        let half = edge::half_of(c.square.width);
+        let k = slanted::piece_of(walk, c.square, half, span);
+        add_slanted(
+            table,
+            walk.divisor,
+            walk.x.sign,
+            walk.y.sign,
+            sign,
+            c.level,
+            c.x,
+            c.y,
+            k.first,
+            k.last,
+            k.middle_x,
+            k.middle_y,
+            k.half_x,
+            k.half_y,
+            left,
+        );
+    } else {
+        add_node(table, walk, sign, c, span, left);
+    }
+}
+
 // Adds an edge to a cell and to those below it, `left` levels in all, or takes it out where the sign is -1. An edge no part of which lies inside the cell adds
 // nothing there.
 fn add_below(table: &mut [i64], e: Edge, sign: i64, c: Node, left: usize)
@@ -248,7 +389,7 @@ fn add_below(table: &mut [i64], e: Edge, sign: i64, c: Node, left: usize)
     let walk = edge::walk_of(e);
     let span = edge::span_in(walk, c.square);
     if span.first < span.last {
-        add_node(table, walk, sign, c, span, left);
+        add_inside(table, walk, sign, c, span, left);
     }
 }
 

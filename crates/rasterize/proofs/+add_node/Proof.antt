@@ -20,7 +20,7 @@ use Rattle.rasterize.specs.Contribution.{contribution}
 use Rattle.rasterize.specs.Ready.{SmallDetails, Ready}
 use Rattle.rasterize.specs.Laws.OnSheet.{on-sheet-room, on-sheet-details}
 use Rattle.rasterize.specs.Laws.ReadyCells.{ready-suc, ready-splits, ready-own, ready-first, ready-room}
-use Rattle.rasterize.proofs.QuarterLoop.{OwnAdded, QuarterLoop, own-added, own-length, own-end, not-inside-of-span}
+use Rattle.rasterize.proofs.QuarterLoop.{OwnAdded, QuarterLoop, asNumbered, as-numbered, own-added, own-length, own-end, not-inside-of-span}
 use Rattle.rasterize.proofs.QuarterLoop.{quarters-start, quarters-asks, quarters-step, quarters-skip, quarters-length, quarters-end}
 use Rattle.rasterize.proofs.add_node.Reads as add-node
 use Rattle.rasterize.proofs.add_node.Kinds as add-node-kinds
@@ -45,7 +45,7 @@ add-node-below t = and 1 add-node-kinds.ps (falls 1 add-node-kinds.ps _<_ μ-add
 
 -- the loop begins when the cell has added its own details
 abbrev add-node-Inv-loop : add-node-lts.InvT-loop
-add-node-Inv-loop table₀ walk sign c left q₀ table q = QuarterLoop (walk .edge) (toZ w64 sign) c (left - 1) table₀ table q
+add-node-Inv-loop table₀ walk sign c left q₀ table q = QuarterLoop asNumbered (walk .edge) (toZ w64 sign) c (left - 1) table₀ table q
 
 abbrev add-node-μ-loop : add-node-lts.MeasureT-loop
 add-node-μ-loop table₀ walk sign c left q₀ table q = quarters - q
@@ -116,7 +116,7 @@ pub +add-node-spec : {M : Type 1} → statement M
       signed s,
     ))
     -- no quarter yet
-    (λ c. quarters-start _ _)
+    (λ c. quarters-start _ _ _)
     -- the next quarter, and the steps inside it
     (λ c κs. (ready-splits (ready (start (entry c))), c .loop-test .taken))
     (λ c κs.
@@ -132,7 +132,7 @@ pub +add-node-spec : {M : Type 1} → statement M
       omega (arith, s .pre .0, s .pre .1 .0),
       (
         below i,
-        quarters-asks (ready s) (signed s) (own (entry i)) (i .before .loop .inv) (i .loop-test .taken) (q .quarter-of .ensures),
+        quarters-asks (ready s) (signed s) (own (entry i)) as-numbered (i .before .loop .inv) (i .loop-test .taken) (q .quarter-of .ensures),
         s .pre .1 .2,
         c .before .before .before .before .span-in .ensures,
         signed s,
@@ -153,11 +153,11 @@ pub +add-node-spec : {M : Type 1} → statement M
     let f : SFits w64 (r .first) = record { sfits = g .0 .1 } in
     let h : SFits w64 (r .last) = record { sfits = g .1 .0 .1 } in
     let l : r .last ≤ℤ r .first = search tests in
-    quarters-skip (ready s) (i .before .loop .inv) (i .loop-test .taken) k (not-inside-of-span _ (s .pre .1 .2) (n .span-in .ensures) l) (w .1))
+    quarters-skip (ready s .on-sheet) as-numbered (i .before .loop .inv) (i .loop-test .taken) k (not-inside-of-span _ (s .pre .1 .2) (n .span-in .ensures) l) (w .1))
     (c .if2 .came))
     -- after the fourth
     (λ c. quarters-length (c .before .loop .inv) ∙ own-length (own (c .before .before .before .before)))
-    (λ c. let d = c .before .before .before .before in as-given (start d) (quarters-end (own d) (c .loop-test .left) (c .before .loop .inv)))
+    (λ c. let d = c .before .before .before .before in as-given (start d) (quarters-end (own d) as-numbered (c .loop-test .left) (c .before .loop .inv)))
     -- on the last level
     (λ c. own-length (own (c .before .before)))
     (λ c.

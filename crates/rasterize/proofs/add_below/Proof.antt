@@ -4,7 +4,7 @@ use mathlib.Core.List.{List}
 use Prim.Native.Nat.{ℕ, suc, _-_}
 use native.Mathlib.Omega.{arith}
 use lib.IntN.{ℤ, pos, _*ℤ_}
-use lib.Signed.{_≤ℤ_}
+use lib.Signed.{_≤ℤ_, _<ℤ_}
 use mir.Syntax.{w64}
 use mir.Val.{SFits}
 use mir.Facts.{toZ-ofZ}
@@ -37,15 +37,21 @@ span-in-requires c κs =
     let w = c .walk-of .ensures in
     (w .1, subst⁻¹ (λ e. Room e (c .before .args .c .square)) (w .0) (room (c .before)))
 
-add-node-requires : tie.Need-add-node-requires
-add-node-requires c κs =
+add-inside-requires : tie.Need-add-inside-requires
+add-inside-requires c κs =
     let n = c .before .before .before .before in
     let s = n .before .before in
-    let w = n .before .walk-of .ensures in (
+    let w = n .before .walk-of .ensures in
+    let r = n .span-in .result in
+    let g = c .before .before .struct-told .given in
+    let f : SFits w64 (r .first) = record { sfits = g .0 .1 } in
+    let h : SFits w64 (r .last) = record { sfits = g .1 .0 .1 } in
+    let l : r .first <ℤ r .last = search tests in (
       s .pre .0,
       subst⁻¹ (λ e. Ready (s .args .table .now) e (s .args .left) (s .args .c)) (w .0) (s .pre .1),
       w .1,
       n .span-in .ensures,
+      l,
       within-back (s .fits .sign) (s .pre .2),
     )
 
@@ -58,7 +64,7 @@ returns : tie.Need-returns
 returns c =
     let n = c .before .before .before .before .before .before in
     let s = n .before .before in
-    as-called (s .args .table .now) (s .args .c) (s .args .left) (toZ-ofZ (s .fits .sign)) (n .before .walk-of .ensures .0) (c .before .add-node .ensures)
+    as-called (s .args .table .now) (s .args .c) (s .args .left) (toZ-ofZ (s .fits .sign)) (n .before .walk-of .ensures .0) (c .before .add-inside .ensures)
 
 -- no part of the edge lies inside the cell
 returns-2 : tie.Need-returns-2
@@ -77,4 +83,4 @@ returns-2 c =
     (contribution-outside (s .args .left) (s .args .c) (s .pre .1 .on-sheet) out))
 
 pub add-below-spec : {M : Type 1} → statement M
-add-below-spec = tie.close (tie.spec walk-of-requires span-in-requires add-node-requires (λ c. search needs) returns returns-2)
+add-below-spec = tie.close (tie.spec walk-of-requires span-in-requires add-inside-requires (λ c. search needs) returns returns-2)

@@ -1,9 +1,8 @@
 -- A quarter of a cell: its numbers are small, and its sides are the cell's, half a width on or as they are.
 use mathlib.Core.Path.{_≡_, refl, sym, _∙_, ap, ap₂}
 use mathlib.Core.List.{[], _∷_}
-use Prim.Native.Nat.{ℕ, suc, _+_, _*_, _/_, _%_, _^_, _<_}
+use Prim.Native.Nat.{ℕ, suc, _+_, _*_, _/_, _%_, _<_}
 use native.Mathlib.Omega.{arith}
-use lib.Pow.{pow-mono}
 use lib.IntN.{ℤ, pos, _+ℤ_, _*ℤ_}
 use lib.Signed.{_≤ℤ_}
 use mir.Syntax.{w64}
@@ -12,14 +11,13 @@ use mir.Facts.{toZ-pos}
 use borrow.Author.Needs.{needs}
 use Rattle.integers.specs.Linear.{le, eq, _&_, linear, lin≤}
 use Rattle.integers.specs.Order.{nonneg, pos-≤ℤ}
-use Rattle.integers.specs.Units.{greatestDepth, greatestSide}
 use Rattle.integers.specs.Within.{Within, within-is, within-le, within-self}
 use Rattle.integers.specs.Bits.{back, back-is, result-is}
 use Rattle.integers.specs.Held.{Held, held-number, held-add, held-mul, held-fits, held-back}
 use Rattle.edge.specs.declared.Cell.{Cell as Square}
 use Rattle.edge.specs.Room.{coordinateLimit}
 use Rattle.rasterize.specs.Nodes.{halfWidth}
-use Rattle.rasterize.specs.Laws.Nodes.{halfWidth-is}
+use Rattle.rasterize.specs.Laws.Nodes.{few, halfWidth-is}
 use Rattle.rasterize.proofs.quarter_of.Statement.{statement}
 use Rattle.rasterize.proofs.quarter_of.Tie as tie
 
@@ -27,10 +25,6 @@ square-eq : {a a′ b b′ w w′ : ℤ} → a ≡ a′ → b ≡ b′ → w ≡
     → _≡_ {A = Square} (record { left = a; top = b; width = w }) (record { left = a′; top = b′; width = w′ })
 square-eq {a} {a′} {b} {b′} {w} {w′} p q r =
     ap₂ (λ x y. record { left = x; top = y; width = w }) p q ∙ ap (λ z. record { left = a′; top = b′; width = z }) r
-
--- a cell's numbers are below the deepest level's
-few : {n level : ℕ} → n < 2 ^ level → level < greatestDepth → n < greatestSide
-few {n} {level} h k = omega (arith, pow-mono {i = level} {j = greatestDepth} (omega arith))
 
 -- ---- the half, and where the quarter's sides lie
 module _ (c : tie.After-half-of) where

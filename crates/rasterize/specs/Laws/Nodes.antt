@@ -1,6 +1,7 @@
 -- Half of a square's width; and the quarters of a cell of the tile, which are cells of the tile, one level down.
 --
 -- Main results
+--   few                          a cell's numbers are below the deepest level's
 --   halfWidth-is                 a number that is not negative, and twice which is the width, is half of it
 --   quarterNode-at               quarter q of cell (x, y) is cell (2 x + q % 2, 2 y + q / 2) of the next level
 --   quarter-below                in each direction a quarter's number is one of the next level's
@@ -8,8 +9,10 @@ use mathlib.Core.Path.{_≡_, sym, _∙_, ap, ap₂}
 use Prim.Native.Nat.{ℕ, suc, _+_, _*_, _/_, _%_, _^_, _<_}
 use native.Mathlib.Omega.{arith}
 use native.Mathlib.Nat.{pow-succ'}
+use lib.Pow.{pow-mono}
 use lib.IntN.{ℤ, pos, negsuc, natAbs, _+ℤ_}
 use lib.Signed.{_≤ℤ_}
+use Rattle.integers.specs.Units.{greatestDepth, greatestSide}
 use Rattle.integers.specs.Order.{nonneg}
 use Rattle.edge.specs.declared.Cell.{Cell as Square}
 use Rattle.edge.specs.Nested.{quarter}
@@ -18,6 +21,9 @@ use Rattle.accuracy.specs.Tile.{cellWidth, square}
 use Rattle.accuracy.specs.Laws.Squares.{cellWidth-halves, square-quarter}
 use Rattle.rasterize.specs.declared.Node.{Node}
 use Rattle.rasterize.specs.Nodes.{quarters, halfWidth, quarterNode, nodeAt}
+
+pub few : {n level : ℕ} → n < 2 ^ level → level < greatestDepth → n < greatestSide
+few {n} {level} h k = omega (arith, pow-mono {i = level} {j = greatestDepth} (omega arith))
 
 pub halfWidth-is : (s : Square) (h : ℤ) → s .width ≡ h +ℤ h → pos 0 ≤ℤ h → h ≡ halfWidth s
 halfWidth-is s (pos n) e h = sym (ap (λ w. pos (natAbs w / 2)) e ∙ ap pos (omega arith))

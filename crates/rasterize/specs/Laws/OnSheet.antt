@@ -2,7 +2,8 @@
 -- has room, and its details are small.
 --
 -- Main results
---   on-sheet-width, on-sheet-even, on-sheet-room     a square that can be halved once more: its width is even, and the edge has room in it
+--   half≥0, twice                                    a square that can be halved once more: its width is twice half of it
+--   on-sheet-width, on-sheet-even, on-sheet-room     so it is even, and the edge has room in it
 --   on-sheet-details                                 and its details there are small
 --   on-sheet-contains, on-sheet-quarter              its quarters lie in it, and on the sheet like it
 --   quarter-on-sheet, quarter-outside                the same of quarter q of a cell; an edge outside the cell is outside the quarter
@@ -44,10 +45,10 @@ module _ {e : Edge} {left : ℕ} {s : Square} (p : OnSheet e (suc left) s) where
   half-is : half ≡ halfWidth s
   half-is = halfWidth-is s half width-is (nonneg (2 ^ left * p .finest))
 
-  twice : s .width ≡ halfWidth s +ℤ halfWidth s
+  pub twice : s .width ≡ halfWidth s +ℤ halfWidth s
   twice = width-is ∙ ap (λ h. h +ℤ h) half-is
 
-  half≥0 : pos 0 ≤ℤ halfWidth s
+  pub half≥0 : pos 0 ≤ℤ halfWidth s
   half≥0 = nonneg (natAbs (s .width) / 2)
 
   pub on-sheet-width : pos 0 ≤ℤ s .width
