@@ -121,11 +121,11 @@ fn how_measured(rounds: usize) -> String {
          **speck** taken out and put back, most of the time goes into looking at the whole table, which each of the two calls does before and after.\n\
          - **Pixel by pixel** is a Rust program without a table, `rust/bench/src/pixels.rs`, in the same optimised build. It works the exact area of each of \
          the {pixels} pixels over every edge in turn: as y runs along the edge, how far x lies past the pixel's left side, held between 0 and the pixel's \
-         width, summed over the y in the pixel's rows, with the sign of the run; doubled. Its arithmetic is floats of 64 bits. What depends on the edge \
+         width, summed over the y in the pixel's rows, with the sign of the run; doubled. **In floats** of 64 bits, what depends on the edge \
          alone, such as its slope, is worked out once for each drawing, and no division is left for the pixels. On these outlines no area is off by {error} \
          of a unit, where a grey is {grey} units; a test holds it to that. An edge that is not in the pixel's rows, or is wholly to its left, is passed over \
-         by comparisons, and one that is wholly to its right counts width times height. Edges are not sorted by row: every pixel asks every edge. The second \
-         row does the same in whole numbers of 64 bits, over |dx| × |dy|: two divisions where comparisons do not decide, and Rust's checks for overflow. \
+         by comparisons, and one that is wholly to its right counts width times height. Edges are not sorted by row: every pixel asks every edge. **Exact**, it \
+         does the same in whole numbers of 64 bits, over |dx| × |dy|: two divisions where comparisons do not decide, and Rust's checks for overflow. \
          Both draw our pictures of level {DEPTH}, in all outlines, but for one grey at most: otherwise nothing is measured.\n\
          - **FreeType and AGG** have no table. Each size is a drawing of its own, from the outline scaled to it; scaling is in the times; opening the \
          library, or making the rasteriser and its memory, is not.\n\
@@ -216,7 +216,7 @@ mod tests {
         let lines = results(&kinds[2]).lines().filter(|line| line.starts_with("| ")).count();
         assert_eq!(lines, 1 + CASES.len() - of_before);
         let text = page(&everything(kinds.into(), Some("commit abc".into())));
-        let line = "| pixel by pixel, 64 × 64 | 4.00 ms | 4.00 – 4.00 | 2.00 | 2.00 – 2.00 |  |\n";
+        let line = "| pixel by pixel in floats, 64 × 64 | 4.00 ms | 4.00 – 4.00 | 2.00 | 2.00 – 2.00 |  |\n";
         assert_eq!(text.matches(line).count(), KINDS.len());
         assert!(text.contains("## Level and upright edges\n") && text.contains("## Before and after\n"));
         assert!(text.contains("Instructions were not counted: no valgrind."));

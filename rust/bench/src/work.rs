@@ -42,12 +42,7 @@ struct Tile {
     before: Vec<i64>,
 }
 
-/// All levels of a tile, level 0 first, one after the other.
-fn pyramid(side: u32, table: &[i64], pictures: &mut [u8]) -> Result<(), Refusal> {
-    level_by_level(side, table, pictures)
-}
-
-/// The same, with a call for each level.
+/// All levels of a tile, level 0 first, one after the other, with a call for each.
 fn level_by_level(side: u32, table: &[i64], pictures: &mut [u8]) -> Result<(), Refusal> {
     (0..=side.trailing_zeros())
         .try_for_each(|level| mattuliyan::greys(side, level, table, &mut pictures[places(level)]))
@@ -175,7 +170,7 @@ impl Work {
 
     fn draw_pyramid(&mut self) -> Result<(), String> {
         let (Tile { outline, table, .. }, pictures) = self.cleared(Size::All);
-        let answer = pyramid(outline.side, table, pictures);
+        let answer = mattuliyan::pyramid(outline.side, table, pictures);
         black_box(pictures);
         answer.map_err(|refusal| format!("all levels: {refusal}"))
     }

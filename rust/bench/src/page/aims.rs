@@ -26,19 +26,26 @@ struct Aim {
     wanted: Wanted,
 }
 
-const PIXELS: Case = Case::Pixels(Arithmetic::Floats);
+/// 01's exact area, in whole numbers; and the faster program in floats, which is not exact.
+const EXACT: Case = Case::Pixels(Arithmetic::WholeNumbers);
+const FLOATS: Case = Case::Pixels(Arithmetic::Floats);
 const FREETYPE: Case = Case::Other(Library::FreeType, Size::All);
 const AGG: Case = Case::Other(Library::Agg, Size::All);
 
 /// "no more than half its time"
 const HALF: f64 = 2.0;
 
-const AIMS: [Aim; 10] = [
-    Aim { asked: true, shape: Shape::Letter, theirs: PIXELS, wanted: Wanted::Times(HALF) },
-    Aim { asked: true, shape: Shape::Random, theirs: PIXELS, wanted: Wanted::Times(HALF) },
-    Aim { asked: true, shape: Shape::Traced, theirs: PIXELS, wanted: Wanted::Times(HALF) },
-    Aim { asked: false, shape: Shape::Letter, theirs: PIXELS, wanted: Wanted::Times(50.0) },
-    Aim { asked: false, shape: Shape::Random, theirs: PIXELS, wanted: Wanted::Times(15.0) },
+const AIMS: [Aim; 15] = [
+    Aim { asked: true, shape: Shape::Letter, theirs: EXACT, wanted: Wanted::Times(HALF) },
+    Aim { asked: true, shape: Shape::Random, theirs: EXACT, wanted: Wanted::Times(HALF) },
+    Aim { asked: true, shape: Shape::Traced, theirs: EXACT, wanted: Wanted::Times(HALF) },
+    Aim { asked: true, shape: Shape::Letter, theirs: FLOATS, wanted: Wanted::Times(HALF) },
+    Aim { asked: true, shape: Shape::Random, theirs: FLOATS, wanted: Wanted::Times(HALF) },
+    Aim { asked: true, shape: Shape::Traced, theirs: FLOATS, wanted: Wanted::Times(HALF) },
+    Aim { asked: false, shape: Shape::Letter, theirs: EXACT, wanted: Wanted::Times(50.0) },
+    Aim { asked: false, shape: Shape::Letter, theirs: FLOATS, wanted: Wanted::Times(50.0) },
+    Aim { asked: false, shape: Shape::Random, theirs: EXACT, wanted: Wanted::Times(15.0) },
+    Aim { asked: false, shape: Shape::Random, theirs: FLOATS, wanted: Wanted::Times(15.0) },
     Aim { asked: false, shape: Shape::Letter, theirs: FREETYPE, wanted: Wanted::Times(1.5) },
     Aim { asked: false, shape: Shape::Letter, theirs: FREETYPE, wanted: Wanted::Instructions },
     Aim { asked: false, shape: Shape::Random, theirs: FREETYPE, wanted: Wanted::Times(5.0) },
@@ -111,7 +118,7 @@ mod tests {
     use crate::timing::Times;
 
     fn letters(pixels: f64) -> Measured {
-        let cases = vec![Case::BuildAndDraw(Size::Full), PIXELS];
+        let cases = vec![Case::BuildAndDraw(Size::Full), FLOATS];
         let times = Times::of(cases, vec![vec![1.0, pixels]]);
         Measured { input: Input::full(Shape::Letter), times, profiles: Err("no".into()), differences: Vec::new() }
     }
@@ -122,12 +129,12 @@ mod tests {
             let aim = Aim { asked: true, shape: Shape::Letter, theirs, wanted };
             super::row(&aim, &letters(pixels))
         };
-        let met = "| asked | Letters | building, and level 6 | pixel by pixel, 64 × 64 | time | 2 or more | 2.00 | 2.00 – 2.00 | met |";
-        assert_eq!(row(2.0, Wanted::Times(HALF), PIXELS), met);
-        assert!(row(1.99, Wanted::Times(HALF), PIXELS).ends_with("| 1.99 | 1.99 – 1.99 | **not met** |"));
+        let met = "| asked | Letters | building, and level 6 | pixel by pixel in floats, 64 × 64 | time | 2 or more | 2.00 | 2.00 – 2.00 | met |";
+        assert_eq!(row(2.0, Wanted::Times(HALF), FLOATS), met);
+        assert!(row(1.99, Wanted::Times(HALF), FLOATS).ends_with("| 1.99 | 1.99 – 1.99 | **not met** |"));
         assert!(row(2.0, Wanted::Times(1.5), FREETYPE).ends_with("| time | 1.5 or more |  |  | not measured |"));
-        assert!(row(2.0, Wanted::Instructions, PIXELS).ends_with("|  |  | not measured |"));
-        let shown = row(3.0, Wanted::Nothing, PIXELS);
+        assert!(row(2.0, Wanted::Instructions, FLOATS).ends_with("|  |  | not measured |"));
+        let shown = row(3.0, Wanted::Nothing, FLOATS);
         assert!(shown.starts_with("| no aim |") && shown.ends_with("| time |  | 3.00 | 3.00 – 3.00 |  |"));
     }
 
