@@ -6,7 +6,7 @@
 --   DrawableBelow entries level room          a level whose cells have children, with room for these
 --   RowParents entries level y l              the figures of row y of such a level stand in their places in a list
 --   RowsBelow g o entries level y before l x  g of the figures of the two rows below row y, but for the children of its first x cells
---   Parents entries depth level room l        the figures of a level above the depth, in a list with room for those of the deepest
+--   Parents entries depth level room l        the figures of a level above the depth, in a list with room for those of the deepest level that has children
 use mathlib.Core.Path.{_≡_}
 use mathlib.Core.List.{List}
 use Prim.Native.Nat.{ℕ, suc, _+_, _*_, _-_, _^_, _<_, _≤_}

@@ -30,7 +30,7 @@ use Rattle.rasterize.specs.Added.{added}
 use Rattle.rasterize.specs.Nodes.{quarters, quarterNode}
 use Rattle.rasterize.specs.Contribution.{firstDetail, ownPart, contribution}
 use Rattle.rasterize.specs.Ready.{OnSheet, Ready}
-use Rattle.rasterize.specs.Slanted.{nodeOn, Slants, wayOf, quarterSpot, SlantedReady, SlantedAdds}
+use Rattle.rasterize.specs.Slanted.{nodeOn, Slants, quarterOnWay, quarterSpot, SlantedReady, SlantedAdds}
 use Rattle.rasterize.specs.Laws.OnSheet.{quarter-on-sheet}
 use Rattle.rasterize.specs.Laws.SlantedCells.{way-below, slants-details, slants-quarter, slants-outside}
 use Rattle.rasterize.proofs.QuarterLoop.{Order, OwnAdded, QuarterLoop, own-added, own-length, own-end}
@@ -42,9 +42,9 @@ four f =
     Σ-suc 3 f ∙ ap (λ z. z +ℤ f 3) (Σ-suc 2 f ∙ ap (λ z. z +ℤ f 2) (Σ-suc 1 f ∙ ap (λ z. z +ℤ f 1) (Σ-suc 0 f ∙ ap (λ z. z +ℤ f 0) (Σ-zero f))))
     ∙ ring (f 0 ∷ f 1 ∷ f 2 ∷ f 3 ∷ []) (search read depth 40) tt
 
-pub way-order : (l : Slope) → Order (wayOf l)
+pub way-order : (l : Slope) → Order (quarterOnWay l)
 unfolding halfOn
-way-order l = record { below = way-below l; whole = λ f. four (λ q. f (wayOf l q)) ∙ same f (l .x) (l .y) ∙ sym (four f) }
+way-order l = record { below = way-below l; whole = λ f. four (λ q. f (quarterOnWay l q)) ∙ same f (l .x) (l .y) ∙ sym (four f) }
   where
     at : ℤ → ℤ → ℕ → ℕ
     at s t q = halfOn s (q % 2) + 2 * halfOn t (q / 2)
@@ -58,7 +58,7 @@ way-order l = record { below = way-below l; whole = λ f. four (λ q. f (wayOf l
 -- ---- the table on the way
 -- `left` is the number of levels below the cell, `entry` the table when the cell has added its own details
 pub record SlantedLoop (sign : ℤ) (l : Slope) (p : Spot) (k : Piece) (left : ℕ) (entry table : List ℤ) (q : ℕ) : Type 0 where
-  pub sums : {w : Walk} {s : Square} → Slants w s l k → OnSheet (w .edge) (suc left) s → QuarterLoop (wayOf l) (w .edge) sign (nodeOn p s) left entry table q
+  pub sums : {w : Walk} {s : Square} → Slants w s l k → OnSheet (w .edge) (suc left) s → QuarterLoop (quarterOnWay l) (w .edge) sign (nodeOn p s) left entry table q
 
 pub record SlantedOwn (sign : ℤ) (l : Slope) (p : Spot) (k : Piece) (left : ℕ) (before entry : List ℤ) : Type 0 where
   pub own : {w : Walk} {s : Square} → Slants w s l k → OnSheet (w .edge) (suc left) s → OwnAdded (w .edge) sign (nodeOn p s) before entry
@@ -69,7 +69,7 @@ module _ {sign : ℤ} {l : Slope} {p : Spot} {k : Piece} where
   slanted-own i d f e = record { own = λ h o. own-added (d ∙ slants-details h o i) f e }
 
   pub slanted-start : (left : ℕ) (entry : List ℤ) → SlantedLoop sign l p k left entry entry 0
-  slanted-start left entry = record { sums = λ h o. quarters-start (wayOf l) left entry }
+  slanted-start left entry = record { sums = λ h o. quarters-start (quarterOnWay l) left entry }
 
   module _ {left : ℕ} {before entry : List ℤ} (own : SlantedOwn sign l p k left before entry) where
     pub slanted-end : {table : List ℤ} {q : ℕ} → quarters ≤ q → SlantedLoop sign l p k left entry table q → SlantedAdds before table sign l p k (suc left)
@@ -81,10 +81,10 @@ module _ {sign : ℤ} {l : Slope} {p : Spot} {k : Piece} where
 -- ---- with levels below
 module _ {sign : ℤ} {l : Slope} {p : Spot} {k : Piece} {left : ℕ} {entry table : List ℤ} {q : ℕ} (g : SlantedLoop sign l p k (suc left) entry table q) (h : q < quarters)
     {r : Piece} (part : IsPart k q r) where
-  pub slanted-step : {after : List ℤ} → SlantedAdds table after sign l (quarterSpot p (wayOf l q)) r (suc left) → SlantedLoop sign l p k (suc left) entry after (q + 1)
+  pub slanted-step : {after : List ℤ} → SlantedAdds table after sign l (quarterSpot p (quarterOnWay l q)) r (suc left) → SlantedLoop sign l p k (suc left) entry after (q + 1)
   slanted-step a = record {
     sums = λ s o. quarters-step (g .sums s o) h refl
-        (a .adds (slants-quarter s o p q h part) (quarter-on-sheet (nodeOn p _) (wayOf l q) (way-below l q h) o));
+        (a .adds (slants-quarter s o p q h part) (quarter-on-sheet (nodeOn p _) (quarterOnWay l q) (way-below l q h) o));
   }
 
   pub slanted-skip : {after : List ℤ} → r .last ≤ℤ r .first → after ≡ table → SlantedLoop sign l p k (suc left) entry after (q + 1)
@@ -93,10 +93,10 @@ module _ {sign : ℤ} {l : Slope} {p : Spot} {k : Piece} {left : ℕ} {entry tab
   }
 
   module _ {before : List ℤ} (u : Within (pos 1) sign) (m : SlantedReady before l p k (suc (suc left))) (own : SlantedOwn sign l p k (suc left) before entry) where
-    pub slanted-asks : r .first <ℤ r .last → SlantedReady table l (quarterSpot p (wayOf l q)) r (suc left)
+    pub slanted-asks : r .first <ℤ r .last → SlantedReady table l (quarterSpot p (quarterOnWay l q)) r (suc left)
     slanted-asks i = record {
       walk = m .walk;
-      square = quarterNode (nodeOn p (m .square)) (wayOf l q) .square;
+      square = quarterNode (nodeOn p (m .square)) (quarterOnWay l q) .square;
       slants = slants-quarter (m .slants) (m .ready .on-sheet) p q h part;
       inside = i;
       ready = quarters-asks (m .ready) u (own .own (m .slants) (m .ready .on-sheet)) (way-order l) (g .sums (m .slants) (m .ready .on-sheet)) h refl;

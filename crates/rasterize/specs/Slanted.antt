@@ -4,12 +4,12 @@
 --
 -- Definitions
 --   slope, piece, spot                           by their numbers
---   nodeOn p s                                   the cell at place p of the quadtree, with its square
+--   nodeOn p s                                   the cell at place p of the quadtree, with a square
 --   Slants w s l k                               slope l and piece k are those of the slanted walk w in square s
---   wayOf l q                                    the quarter that is number q on the way: 0 before both middles are crossed, 3 after both
+--   quarterOnWay l q                             the quarter that the walk is in: q % 2 is 0 before the middle of x is crossed and 1 after it, q / 2 likewise of y
 --   quarterSpot p q                              the place of quarter q of a cell
 --   SlantedReady t l p k left                    such a walk and such a square that the recursion is ready for, with `left` levels from the cell's on
---   SlantedAdds before after sign l p k left     what the walk's edge adds there has been added
+--   SlantedAdds before after sign l p k left     what the walk's edge adds there has been added, for every such walk: `SlantedReady` says that there is one
 use mathlib.Core.Path.{_≡_}
 use mathlib.Core.List.{List}
 use Prim.Native.Nat.{ℕ, suc, _+_, _*_, _/_, _%_}
@@ -54,11 +54,11 @@ pub record Slants (w : Walk) (s : Square) (l : Slope) (k : Piece) : Type 0 where
   pub is-walk : IsWalk w
   pub x-moves : Moving (w .x)
   pub y-moves : Moving (w .y)
-  pub slope : l ≡ slopeOf w
-  pub piece : k ≡ pieceOf w s (halfWidth s)
+  pub is-slope : l ≡ slopeOf w
+  pub is-piece : k ≡ pieceOf w s (halfWidth s)
 
-abbrev pub wayOf : Slope → ℕ → ℕ
-wayOf l q = halfOn (l .x) (q % 2) + 2 * halfOn (l .y) (q / 2)
+abbrev pub quarterOnWay : Slope → ℕ → ℕ
+quarterOnWay l q = halfOn (l .x) (q % 2) + 2 * halfOn (l .y) (q / 2)
 
 -- quarter q of a cell, as `quarterNode` has it
 abbrev pub quarterSpot : Spot → ℕ → Spot

@@ -1,7 +1,7 @@
 // An edge, a contour, an outline into a table of Haar coefficients.
 //
 // The tile is cut into quarters, each quarter into quarters, and so on: a quadtree. An edge adds its term of the signed area to the root, and its
-// three details, h, v and d, which `edge` works out, to each cell inside which some part of it lies.
+// three details, h, v and d, which `edge` works out, and of a slanted edge `slanted`, to each cell inside which some part of it lies.
 //
 //       +-------+-------+        From the whole tile a loop goes down as long as the edge lies in one quarter. There the recursion begins: a cell
 //       |       |  /    |        adds its own three details, and hands the edge on to those of its quarters inside which some part of it lies, here
@@ -41,7 +41,7 @@ ghost use Rattle.rasterize.specs.Ready.{sumLimit, Spare, Ready, Splits, 
 ghost use Rattle.rasterize.specs.Views.{seenBy, rootPart, partTable, viewTable, InView};
 ghost use Rattle.slanted.specs.Pieces.{Moving};
 ghost use Rattle.slanted.specs.Parts.{halfOn};
-ghost use Rattle.rasterize.specs.Slanted.{slope, piece, spot, wayOf, quarterSpot, SlantedReady, SlantedAdds};
+ghost use Rattle.rasterize.specs.Slanted.{slope, piece, spot, quarterOnWay, quarterSpot, SlantedReady, SlantedAdds};
 use edge::Cell;
 use edge::Details;
 use edge::Edge;
@@ -199,7 +199,7 @@ fn add_node(table: &mut [i64], walk: Walk, sign: i64, c: Node, span: Span, left:
     }
 }
 
-// The half of a cell that a direction of this sign is in before its middle is crossed, 0, or after it, 1.
+// Which half of a cell a walk is in, 0 for the left or upper and 1 for the right or lower, where its sign is this: k is 0 before the middle is crossed and 1 after.
 fn half_on(sign: i64, k: usize) -> usize
     requires { ⌜ k < 2 ⌝ }
     ensures { λ r. ⌜ r ≡ halfOn sign k ⌝ }
@@ -207,10 +207,10 @@ fn half_on(sign: i64, k: usize) -> usize
     if sign < 0 { 1 - k } else { k }
 }
 
-// The quarter that is number q on a walk's way.
+// The quarter that a walk is in: q % 2 is 0 before the middle of x is crossed and 1 after it, q / 2 likewise of y.
 fn quarter_on(p: Spot, l: Slope, q: usize) -> Spot
     requires { ⌜ (q < quarters) × (p .level < greatestDepth) × (p .x < 2 ^ p .level) × (p .y < 2 ^ p .level) × Within (pos 1) (l .x) × Within (pos 1) (l .y) ⌝ }
-    ensures { λ r. ⌜ r ≡ quarterSpot p (wayOf l q) ⌝ }
+    ensures { λ r. ⌜ r ≡ quarterSpot p (quarterOnWay l q) ⌝ }
 {
     Spot {
         level: p.level + 1,

@@ -17,7 +17,7 @@ use mir.Val.{SFits}
 use mir.Facts.{toZ-ofZ}
 use Rattle.integers.specs.Ring.{read, ring}
 use Rattle.integers.specs.Order.{add-one-≤ℤ, nonneg, ≤ℤ-mul}
-use Rattle.integers.specs.Linear.{le, _&_, none!, linear, lin≤}
+use Rattle.integers.specs.Linear.{le, lt, _&_, none!, linear, lin≤}
 use Rattle.integers.specs.Within.{Within}
 use Rattle.integers.specs.Bits.{back}
 use Rattle.integers.specs.Rounding.{roundHalfAway}
@@ -54,7 +54,7 @@ sign-within (turns h e) = subst⁻¹ (Within (pos 1)) e (record { low = lin≤ [
 
 pub sign-nonneg : {m s : ℤ} → Turns m s → pos 0 ≤ℤ (s *ℤ m)
 sign-nonneg {m} (stays h e) = subst⁻¹ (λ s. pos 0 ≤ℤ (s *ℤ m)) e (lin≤ (m ∷ []) (le h) (search linear depth 40) tt)
-sign-nonneg {m} (turns h e) = subst⁻¹ (λ s. pos 0 ≤ℤ (s *ℤ m)) e (lin≤ (m ∷ []) (le h) (search linear depth 40) tt)
+sign-nonneg {m} (turns h e) = subst⁻¹ (λ s. pos 0 ≤ℤ (s *ℤ m)) e (lin≤ (m ∷ []) (lt h) (search linear depth 40) tt)
 
 pub sign-rounded : {m s n : ℤ} → Turns m s → pos 0 <ℤ n → s *ℤ roundHalfAway (s *ℤ m) (natAbs n) ≡ roundHalfAway m (natAbs n)
 sign-rounded {m} {s} {n} (stays h e) k =

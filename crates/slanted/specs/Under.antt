@@ -12,7 +12,7 @@
 use mathlib.Core.Path.{_≡_}
 use Prim.Native.Nat.{ℕ, _+_, _*_, _^_}
 use lib.IntN.{ℤ, pos, negsuc, _-ℤ_, _*ℤ_}
-use lib.Signed.{_≤ℤ_}
+use lib.Signed.{_≤ℤ_, _<ℤ_}
 use Rattle.integers.specs.Units.{widthTimesExtentLimit}
 use Rattle.integers.specs.Within.{Within}
 use Rattle.integers.specs.Clamp.{clamp}
@@ -30,6 +30,7 @@ under p m u v = pos 2 *ℤ p *ℤ (v -ℤ u) -ℤ (signedSquare (v -ℤ m) -ℤ 
 unfoldable pub turned : ℤ → ℤ → ℤ → ℤ → ℤ → ℤ
 turned p m u v y = under p m u (clamp y u v) -ℤ under p m (clamp y u v) v
 
+-- more than it ever is: where it is asked for, it is at most 2 p², and p is at most 2^28
 abbrev pub underLimit : ℕ
 underLimit = 2 ^ 60
 
@@ -37,7 +38,7 @@ underLimit = 2 ^ 60
 abbrev pub sumLimit : ℕ
 sumLimit = 2 * underLimit + underLimit
 
--- a crossing lies at most so many steps from the start as the first step inside and half of a width together
+-- A crossing is at most half of a width from the first step inside, and that step is within `crossingLimit`: twice that limit is enough for both.
 abbrev pub farLimit : ℕ
 farLimit = 2 * crossingLimit
 
@@ -53,4 +54,4 @@ pub record Arch (p m u v : ℤ) : Type 0 where
 
 pub data Turns (m s : ℤ) : Type 0 where
   stays : pos 0 ≤ℤ m → s ≡ pos 1 → Turns m s
-  turns : m ≤ℤ pos 0 → s ≡ negsuc 0 → Turns m s
+  turns : m <ℤ pos 0 → s ≡ negsuc 0 → Turns m s

@@ -3,8 +3,8 @@
 // An edge that is neither level nor upright moves in x and in y at every step of its walk (`edge`). So after t steps it is p - |t - m| steps from the
 // nearer upright side of a cell, where m is the step at which x crosses the middle and p is half of the cell's width in steps of x:
 //
-//       p              /\             what lies under this tent, from the first step inside the cell to the last, is h, and under that of y it is v;
-//                     /  \            d is what lies under the tent of x until y crosses its own middle, less what comes after.
+//       p              /\             twice what lies under this tent, from the first step inside the cell to the last, is h but for its sign, `divisor`
+//                     /  \            times over, and under that of y it is v; d is what lies under the tent of x until y crosses its own middle, less the rest.
 //       0         ___/    \___
 //              m - p   m   m + p
 //
@@ -80,7 +80,7 @@ pub fn piece_of(w: Walk, c: Cell, half: i64, s: Span) -> Piece
 
 // ---- the details
 
-// Twice the sum of p - |t - m| over the steps t from u to v.
+// Twice the sum of p - |t - m| over the steps from u to v, each by the mean of its two ends.
 fn under_tent(p: i64, m: i64, u: i64, v: i64) -> i64
     requires { ⌜ Arch p m u v ⌝ }
     ensures { λ r. ⌜ r ≡ under p m u v ⌝ }
@@ -96,7 +96,7 @@ fn under_tent(p: i64, m: i64, u: i64, v: i64) -> i64
     }
 }
 
-// m / n to the nearest whole number, a half going up: m is not negative.
+// m / n to the nearest whole number, a half going up. m is not negative.
 fn nearest(m: i64, n: i64) -> i64
     requires { ⌜ (pos 0 ≤ℤ m) × (m ≤ℤ pos sumLimit) × (pos 0 <ℤ n) × (n ≤ℤ pos crossingLimit) ⌝ }
     ensures { λ r. ⌜ r ≡ roundHalfAway m (natAbs n) ⌝ }
@@ -111,7 +111,7 @@ fn turn(m: i64) -> i64
     if m < 0 { -1 } else { 1 }
 }
 
-// The same of any m, a half going away from zero.
+// m / n to the nearest whole number, a half going away from zero, for any m.
 fn away(m: i64, n: i64) -> i64
     requires { ⌜ Within (pos sumLimit) m × (pos 0 <ℤ n) × (n ≤ℤ pos crossingLimit) ⌝ }
     ensures { λ r. ⌜ r ≡ roundHalfAway m (natAbs n) ⌝ }
@@ -134,7 +134,7 @@ fn turned(p: i64, m: i64, u: i64, v: i64, y: i64, h: i64) -> i64
     }
 }
 
-// The same over n, rounded, where r is h over n, rounded: only if y lies between is there a quotient of its own.
+// `turned` over n, rounded. r is h over n, rounded: if y does not lie between the two ends, the answer is r or -r, and nothing is divided again.
 fn turned_over(p: i64, m: i64, from: i64, to: i64, y: i64, h: i64, r: i64, n: i64) -> i64
     requires { ⌜ Arch p m from to × (h ≡ under p m from to) × (r ≡ roundHalfAway h (natAbs n)) × (pos 0 <ℤ n) × (n ≤ℤ pos crossingLimit) ⌝ }
     ensures { λ d. ⌜ d ≡ roundHalfAway (turnedSum p m from to y) (natAbs n) ⌝ }
@@ -206,7 +206,7 @@ pub fn details_of(l: Slope, k: Piece) -> Details
     }
 }
 
-// ---- in a quarter. k is 0 in the half before a crossing and 1 in the one after it
+// ---- in a quarter, half by half: 0 is the half before a crossing, and 1 the one after it.
 
 // The earlier of two steps, and the later.
 fn low(a: i64, b: i64) -> i64

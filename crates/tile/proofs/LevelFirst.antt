@@ -1,4 +1,4 @@
--- The questions that every drawing call asks first, and the rest of its own.
+-- The questions that every call asks first that draws one level, and the rest of its own.
 --
 -- Main results
 --   level-refused              where one of them is answered no, it decides

@@ -3,7 +3,7 @@
 -- Definitions
 --   cappedEdges counts                     the counts' sum, or one more than the most edges where it is greater. Question 5 asks only whether it passes the
 --                                          most, so `edges_of` adds up no further, and no sum overflows.
---   levelQuestions side level table        the questions that every drawing call asks first, which `level_refusal` answers
+--   levelQuestions side level table        the questions that every call asks first that draws one level, which `level_refusal` answers
 use mathlib.Core.Bool.{cond}
 use mathlib.Core.List.{List, [], _∷_}
 use Prim.Native.Nat.{ℕ, suc}

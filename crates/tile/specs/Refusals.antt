@@ -265,7 +265,7 @@ question7-means side level = leb-means level (depthOf side)
 pub question8-means : (level size : ℕ) → Yes (question8 level size) ↔ (size ≡ 4 ^ level)
 question8-means level size = eqb-means size (4 ^ level)
 
--- all levels: exactly 1 + 4 + .. + 4^depth places, a third of one less than 4^(depth + 1)
+-- all levels: exactly 1 + 4 + .. + 4^depth places
 pub question8All-means : (side size : ℕ) → Yes (question8All side size) ↔ (size ≡ places (suc (depthOf side)))
 question8All-means side size = eqb-means size (places (suc (depthOf side)))
 

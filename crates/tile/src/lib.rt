@@ -240,7 +240,7 @@ pub fn outline_refusal(
     DONE
 }
 
-// The questions that every drawing call asks first.
+// The questions that every call asks first that draws one level.
 fn level_refusal(side: u32, level: u32, table: &[i64]) -> u32
     ensures { λ r. ⌜ r ≡ firstNo (levelQuestions side level (now (table .entry))) ⌝ }
 {
@@ -305,8 +305,6 @@ fn pyramid_refusal(side: u32, table: &[i64], size: usize) -> u32
     DONE
 }
 
-// ---- the six calls
-
 // Sets every entry to 0.
 pub fn clear(table: &mut [i64])
     ensures { λ _. ⌜ now (table .exit) ≡ replicate (length (now (table .entry))) (pos 0) ⌝ }
@@ -315,6 +313,8 @@ pub fn clear(table: &mut [i64])
         table[i] = 0;
     }
 }
+
+// ---- the six calls
 
 // Builds the table of an outline on a tile: `points` has x and y of each point in turn, in 1/256 pixel, and `counts` how many points each contour
 // has. The answer is 0 and the edge count; whatever the table held before, it holds the outline's afterwards. Or it is the number of the first

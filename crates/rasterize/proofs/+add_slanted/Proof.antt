@@ -23,7 +23,7 @@ use Rattle.rasterize.specs.declared.Spot.{Spot}
 use Rattle.rasterize.specs.Added.{added}
 use Rattle.rasterize.specs.Nodes.{quarters}
 use Rattle.rasterize.specs.Ready.{SmallDetails, Ready}
-use Rattle.rasterize.specs.Slanted.{slope, piece, spot, wayOf, quarterSpot, SlantedReady, SlantedAdds}
+use Rattle.rasterize.specs.Slanted.{slope, piece, spot, quarterOnWay, quarterSpot, SlantedReady, SlantedAdds}
 use Rattle.rasterize.specs.Laws.Adding.{added-length}
 use Rattle.rasterize.specs.Laws.OnSheet.{on-sheet-details}
 use Rattle.rasterize.specs.Laws.ReadyCells.{ready-suc, ready-splits, ready-own, ready-first}
@@ -173,23 +173,23 @@ module _ {t : ℕ} (g : add-slanted-lts.After-struct-told (claims t) (add-slante
       piece-eq (toZ-ofZ first-fits) (toZ-ofZ last-fits) (field-is _ (h .0 .1)) (field-is _ (h .1 .0 .1)) (field-is _ (h .1 .1 .0 .1)) (field-is _ (h .1 .1 .1 .0 .1))
 
   -- the call for the quarter, in its numbers
-  asked : {n : Spot} → n ≡ quarterSpot (p from) (wayOf (l from) (next .before .loop .q)) → r .first <ℤ r .last
+  asked : {n : Spot} → n ≡ quarterSpot (p from) (quarterOnWay (l from) (next .before .loop .q)) → r .first <ℤ r .last
       → SlantedReady (next .before .loop .table) (l from) n (piece (back (r .first)) (back (r .last)) (back (r .«middle_x»)) (back (r .«middle_y»)) (back (r .«half_x»)) (back (r .«half_y»))) (from .args .left - 1)
   asked {n} e i =
       subst⁻¹ (λ z. SlantedReady (next .before .loop .table) (l from) n z (from .args .left - 1)) part-is
       (subst⁻¹ (λ z. SlantedReady (next .before .loop .table) (l from) z r (from .args .left - 1)) e
-      (subst (SlantedReady (next .before .loop .table) (l from) (quarterSpot (p from) (wayOf (l from) (next .before .loop .q))) r) (below next)
+      (subst (SlantedReady (next .before .loop .table) (l from) (quarterSpot (p from) (quarterOnWay (l from) (next .before .loop .q))) r) (below next)
       (slanted-asks (reached next) (next .loop-test .taken) (g .before .before .part-of .ensures) (signed from) (two from (deep next)) (own (entry next) _) i)))
 
   -- and what it has added
-  stepped : {n : Spot} {after called : List ℤ} → n ≡ quarterSpot (p from) (wayOf (l from) (next .before .loop .q))
+  stepped : {n : Spot} {after called : List ℤ} → n ≡ quarterSpot (p from) (quarterOnWay (l from) (next .before .loop .q))
       → after ≡ called → SlantedAdds (next .before .loop .table) called (back (from .args .sign)) (l from) n (piece (back (r .first)) (back (r .last)) (back (r .«middle_x»)) (back (r .«middle_y»)) (back (r .«half_x»)) (back (r .«half_y»))) (from .args .left - 1)
       → SlantedLoop (back (from .args .sign)) (l from) (p from) (k from) (from .args .left - 1) (entry next .add-details .last .0) after (next .before .loop .q + 1)
   stepped {n} {after} e same b =
       let a = subst⁻¹ (λ z. SlantedAdds (next .before .loop .table) z (back (from .args .sign)) (l from) n (piece (back (r .first)) (back (r .last)) (back (r .«middle_x»)) (back (r .«middle_y»)) (back (r .«half_x»)) (back (r .«half_y»))) (from .args .left - 1)) same b in
       subst (λ m. SlantedLoop (back (from .args .sign)) (l from) (p from) (k from) m (entry next .add-details .last .0) after (next .before .loop .q + 1)) (below next)
       (slanted-step (reached next) (next .loop-test .taken) (g .before .before .part-of .ensures)
-      (subst⁻¹ (SlantedAdds (next .before .loop .table) after (back (from .args .sign)) (l from) (quarterSpot (p from) (wayOf (l from) (next .before .loop .q))) r) (below next)
+      (subst⁻¹ (SlantedAdds (next .before .loop .table) after (back (from .args .sign)) (l from) (quarterSpot (p from) (quarterOnWay (l from) (next .before .loop .q))) r) (below next)
       (subst (λ z. SlantedAdds (next .before .loop .table) after (back (from .args .sign)) (l from) z r (from .args .left - 1)) e
       (subst (λ z. SlantedAdds (next .before .loop .table) after (back (from .args .sign)) (l from) n z (from .args .left - 1)) part-is a))))
 

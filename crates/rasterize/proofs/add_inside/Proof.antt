@@ -81,8 +81,8 @@ module _ (c : tie.After-piece-of) where
     is-walk = s .pre .2;
     x-moves = both .0;
     y-moves = both .1;
-    slope = refl;
-    piece = c .piece-of .ensures ∙ ap (pieceOf (s .args .walk) (s .args .c .square)) (halfWidth-is (s .args .c .square) (half halved) (even halved) (half≥0 halved));
+    is-slope = refl;
+    is-piece = c .piece-of .ensures ∙ ap (pieceOf (s .args .walk) (s .args .c .square)) (halfWidth-is (s .args .c .square) (half halved) (even halved) (half≥0 halved));
   }
 
   inside : k .first <ℤ k .last

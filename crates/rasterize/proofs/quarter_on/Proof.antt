@@ -10,7 +10,7 @@ use Rattle.integers.specs.Bits.{back, back-is}
 use Rattle.slanted.specs.Parts.{halfOn}
 use Rattle.slanted.specs.Laws.PieceParts.{half-on-below}
 use Rattle.rasterize.specs.declared.Spot.{Spot}
-use Rattle.rasterize.specs.Slanted.{wayOf}
+use Rattle.rasterize.specs.Slanted.{quarterOnWay}
 use Rattle.rasterize.specs.Laws.Nodes.{few}
 use Rattle.rasterize.proofs.quarter_on.Statement.{statement}
 use Rattle.rasterize.proofs.quarter_on.Tie as tie

@@ -33,31 +33,31 @@ use Rattle.rasterize.specs.declared.Node.{Node}
 use Rattle.rasterize.specs.declared.Spot.{Spot}
 use Rattle.rasterize.specs.Nodes.{quarters, halfWidth, quarterNode}
 use Rattle.rasterize.specs.Ready.{OnSheet}
-use Rattle.rasterize.specs.Slanted.{nodeOn, Slants, wayOf}
+use Rattle.rasterize.specs.Slanted.{nodeOn, Slants, quarterOnWay}
 use Rattle.rasterize.specs.Laws.OnSheet.{half≥0, twice, on-sheet-room, quarter-on-sheet}
 
 -- ---- a quarter
-pub way-below : (l : Slope) (q : ℕ) → q < quarters → wayOf l q < quarters
+pub way-below : (l : Slope) (q : ℕ) → q < quarters → quarterOnWay l q < quarters
 way-below l q h = omega (arith, half-on-below (l .x) {k = q % 2} (omega arith), half-on-below (l .y) {k = q / 2} (omega arith))
 
 -- ---- in a cell
 module _ {w : Walk} {s : Square} {l : Slope} {k : Piece} (h : Slants w s l k) where
   inside-is : k .first <ℤ k .last → pieceOf w s (halfWidth s) .first <ℤ pieceOf w s (halfWidth s) .last
-  inside-is i = subst (λ (z : Piece). z .first <ℤ z .last) (h .piece) i
+  inside-is i = subst (λ (z : Piece). z .first <ℤ z .last) (h .is-piece) i
 
   module _ {left : ℕ} (o : OnSheet (w .edge) (suc left) s) (i : k .first <ℤ k .last) where
     pub slants-sound : Sound l k
     slants-sound =
-        subst⁻¹ (λ l. Sound l k) (h .slope) (subst⁻¹ (Sound (slopeOf w)) (h .piece)
+        subst⁻¹ (λ l. Sound l k) (h .is-slope) (subst⁻¹ (Sound (slopeOf w)) (h .is-piece)
         (piece-sound (h .is-walk) (h .x-moves) (h .y-moves) s (halfWidth s) (on-sheet-room o) (twice o) (half≥0 o) (inside-is i)))
 
     pub slants-details : roundedDetails l k ≡ details (w .edge) s
     slants-details =
-        ap₂ roundedDetails (h .slope) (h .piece) ∙ piece-details (h .is-walk) (h .x-moves) (h .y-moves) s (halfWidth s) (twice o) (half≥0 o) (inside-is i)
+        ap₂ roundedDetails (h .is-slope) (h .is-piece) ∙ piece-details (h .is-walk) (h .x-moves) (h .y-moves) s (halfWidth s) (twice o) (half≥0 o) (inside-is i)
 
   pub slants-outside : k .last ≤ℤ k .first → Inside (w .edge) s → ⊥
   slants-outside e i =
-      let f : k .first <ℤ k .last = subst⁻¹ (λ (z : Piece). z .first <ℤ z .last) (h .piece) (span-of-inside (h .is-walk) s i) in
+      let f : k .first <ℤ k .last = subst⁻¹ (λ (z : Piece). z .first <ℤ z .last) (h .is-piece) (span-of-inside (h .is-walk) s i) in
       lin⊥ (k .first ∷ k .last ∷ []) (le e & lt f) (search linear depth 40) tt
 
   -- ---- in a quarter
@@ -68,16 +68,16 @@ module _ {w : Walk} {s : Square} {l : Slope} {k : Piece} (h : Slants w s l k) wh
 
     pub slants-even : Even (k .«half_x») × Even (k .«half_y»)
     slants-even =
-        subst⁻¹ (λ (z : Piece). Even (z .«half_x») × Even (z .«half_y»)) (h .piece) (piece-even (h .is-walk) s _ (twice below) (half≥0 below))
+        subst⁻¹ (λ (z : Piece). Even (z .«half_x») × Even (z .«half_y»)) (h .is-piece) (piece-even (h .is-walk) s _ (twice below) (half≥0 below))
 
-    pub slants-quarter : (p : Spot) (q : ℕ) → q < quarters → {r : Piece} → IsPart k q r → Slants w (quarterNode (nodeOn p s) (wayOf l q) .square) l r
+    pub slants-quarter : (p : Spot) (q : ℕ) → q < quarters → {r : Piece} → IsPart k q r → Slants w (quarterNode (nodeOn p s) (quarterOnWay l q) .square) l r
     slants-quarter p q b {r} t = record {
       is-walk = h .is-walk;
       x-moves = h .x-moves;
       y-moves = h .y-moves;
-      slope = h .slope;
-      piece = piece-part (h .is-walk) (h .x-moves) (h .y-moves) s (halfWidth s) _ (twice o) (twice below) (half≥0 below) q b
-          (subst (λ z. IsPart z q r) (h .piece) t)
+      is-slope = h .is-slope;
+      is-piece = piece-part (h .is-walk) (h .x-moves) (h .y-moves) s (halfWidth s) _ (twice o) (twice below) (half≥0 below) q b
+          (subst (λ z. IsPart z q r) (h .is-piece) t)
           ∙ ap₂ (λ i j. pieceOf w (quarter s (halfWidth s) i j) (halfWidth (quarter s (halfWidth s) 0 0))) column row;
     }
       where
@@ -87,12 +87,12 @@ module _ {w : Walk} {s : Square} {l : Slope} {k : Piece} (h : Slants w s l k) wh
         down : halfOn (l .y) (q / 2) < 2
         down = half-on-below (l .y) {k = q / 2} (omega arith)
 
-        column : halfOn (w .x .sign) (q % 2) ≡ wayOf l q % 2
+        column : halfOn (w .x .sign) (q % 2) ≡ quarterOnWay l q % 2
         column =
-            let a : halfOn (l .x) (q % 2) ≡ wayOf l q % 2 = omega (arith, across, down) in
-            ap (λ (z : Slope). halfOn (z .x) (q % 2)) (sym (h .slope)) ∙ a
+            let a : halfOn (l .x) (q % 2) ≡ quarterOnWay l q % 2 = omega (arith, across, down) in
+            ap (λ (z : Slope). halfOn (z .x) (q % 2)) (sym (h .is-slope)) ∙ a
 
-        row : halfOn (w .y .sign) (q / 2) ≡ wayOf l q / 2
+        row : halfOn (w .y .sign) (q / 2) ≡ quarterOnWay l q / 2
         row =
-            let a : halfOn (l .y) (q / 2) ≡ wayOf l q / 2 = omega (arith, across, down) in
-            ap (λ (z : Slope). halfOn (z .y) (q / 2)) (sym (h .slope)) ∙ a
+            let a : halfOn (l .y) (q / 2) ≡ quarterOnWay l q / 2 = omega (arith, across, down) in
+            ap (λ (z : Slope). halfOn (z .y) (q / 2)) (sym (h .is-slope)) ∙ a

@@ -1,7 +1,7 @@
 -- The sign of a number.
 use mathlib.Core.Path.{refl}
 use lib.IntN.{pos}
-use lib.Signed.{_≤ℤ_}
+use lib.Signed.{_≤ℤ_, _<ℤ_}
 use mir.Facts.{sfits-lit}
 use Rattle.integers.specs.Machine.{tests}
 use Rattle.slanted.specs.Under.{stays, turns}
@@ -12,7 +12,7 @@ returns : tie.Need-returns
 returns c =
     let s = c .before in
     let i = s .fits .m in
-    let k : s .args .m ≤ℤ pos 0 = search (tests, sfits-lit) in
+    let k : s .args .m <ℤ pos 0 = search (tests, sfits-lit) in
     turns k refl
 
 returns-2 : tie.Need-returns-2

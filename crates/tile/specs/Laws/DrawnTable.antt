@@ -1,7 +1,7 @@
--- A level and a table that no drawing call refuses.
+-- A level and a table that no call refuses that draws one level.
 --
 -- Main results
---   LevelYes side level table    yes to the questions that every drawing call asks: 1, 2, 7 and 9
+--   LevelYes side level table    yes to the questions that every call asks that draws one level: 1, 2, 7 and 9
 --   drawn-accepted               a picture with as many entries as the level has cells is not refused
 --   cell-accepted                no cell of the level is refused
 use mathlib.Core.Path.{_≡_}
