@@ -7,8 +7,6 @@ pub mod Sizes
 pub mod AxisNumbers
 pub mod WalkRoom
 pub mod PieceBounds
--- an edge in one quarter
-pub mod InQuarter
 -- sums along a walk are the edge's; the closed form at the four cuts, of the details and of the area
 pub mod WalkForm
 pub mod CutForm

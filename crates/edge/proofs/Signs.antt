@@ -3,6 +3,9 @@
 -- Main results
 --   sign-positive, sign-negative, sign-zero            of the sign
 --   extent-positive, extent-negative, extent-zero      of the extent
+--   abs-negative, abs-nonnegative                      of the magnitude
+--   half-first, half-second,
+--   before-first, before-second                        of the half that two points lie in, and how far before its middle
 --   strip-forward, strip-backward,
 --   strip-between, strip-outside                       of the steps between two lines
 use mathlib.Core.Path.{_≡_, refl, _∙_, ap}
@@ -10,13 +13,15 @@ use mathlib.Core.List.{[], _∷_}
 use mathlib.Core.Logic.{_⊎_, inl, inr}
 use mathlib.Core.Bool.{Bool, true, false, cond}
 use Prim.Native.Nat.{zero, suc}
-use lib.IntN.{ℤ, pos, negsuc, negℤ, _-ℤ_}
+use lib.IntN.{ℤ, pos, negsuc, negℤ, _+ℤ_, _-ℤ_}
 use lib.Signed.{_≤ℤ_, _<ℤ_, ltZ}
 use Rattle.integers.specs.Ring.{read, ring}
 use Rattle.integers.specs.Order.{nonneg, ≤ℤ-antisym, ltZ-true, ltZ-false}
 use Rattle.integers.specs.Linear.{le, lt, _&_, linear, lin⊥}
 use Rattle.edge.specs.declared.Span.{Span}
 use Rattle.edge.specs.Walk.{extent, sign}
+use Rattle.integers.specs.Magnitude.{abs}
+use Rattle.edge.specs.Code.{halfWith, beforeHalf}
 use Rattle.edge.specs.Cuts.{allSteps, noSteps, strip}
 
 pub sign-positive : (d : ℤ) → pos 0 <ℤ d → sign d ≡ pos 1
@@ -50,6 +55,37 @@ extent-negative (negsuc n) h = ring (pos n ∷ []) (search read depth 40) tt
 pub extent-zero : {d : ℤ} → d ≤ℤ pos 0 → pos 0 ≤ℤ d → pos (extent d) ≡ pos 1
 unfolding extent
 extent-zero h k = ap (λ d. pos (extent d)) (≤ℤ-antisym h k)
+
+pub abs-negative : (z : ℤ) → z <ℤ pos 0 → abs z ≡ pos 0 -ℤ z
+unfolding abs
+abs-negative (pos n) h = lin⊥ (pos n ∷ []) (lt h & le (nonneg n)) (search linear depth 40) tt
+abs-negative (negsuc n) h = ring (pos n ∷ []) (search read depth 40) tt
+
+pub abs-nonnegative : (z : ℤ) → pos 0 ≤ℤ z → abs z ≡ z
+unfolding abs
+abs-nonnegative (pos n) h = refl
+abs-nonnegative (negsuc n) h = absurd (h .le)
+
+-- the first half or the second
+pub half-first : (u : ℤ) → pos 0 ≤ℤ u → halfWith u ≡ 0
+unfolding halfWith
+half-first (pos n) h = refl
+half-first (negsuc n) h = absurd (h .le)
+
+pub half-second : (u : ℤ) → u <ℤ pos 0 → halfWith u ≡ 1
+unfolding halfWith
+half-second (pos n) h = lin⊥ (pos n ∷ []) (lt h & le (nonneg n)) (search linear depth 40) tt
+half-second (negsuc n) h = refl
+
+pub before-first : (u half : ℤ) → pos 0 ≤ℤ u → beforeHalf u half ≡ u -ℤ half
+unfolding beforeHalf
+before-first (pos n) half h = refl
+before-first (negsuc n) half h = absurd (h .le)
+
+pub before-second : (u half : ℤ) → u <ℤ pos 0 → beforeHalf u half ≡ u +ℤ half
+unfolding beforeHalf
+before-second (pos n) half h = lin⊥ (pos n ∷ []) (lt h & le (nonneg n)) (search linear depth 40) tt
+before-second (negsuc n) half h = refl
 
 pub strip-forward : (s lower upper n : ℤ) → pos 0 <ℤ s → strip s lower upper n ≡ record { first = lower; last = upper }
 unfolding strip

@@ -3,24 +3,26 @@
 -- Main results
 --   coordinate, difference        a coordinate, and a difference of two, as the machine has them
 --   extent-within                 the extent of a difference
+--   magnitude                     a difference's magnitude, as `abs` answers it
 --   width≥0, width-high,
 --   width-within                  what `Room` says of a cell's width
---   half-high                     and of half of it
-use mathlib.Core.Path.{_≡_}
+use mathlib.Core.Path.{_≡_, _∙_, ap}
 use mathlib.Core.List.{[], _∷_}
+use Prim.Native.Nat.{_<_, _^_}
 use lib.IntN.{ℤ, pos, _+ℤ_, _-ℤ_}
-use lib.Signed.{_≤ℤ_}
+use lib.Signed.{_≤ℤ_, mag}
 use Rattle.integers.specs.Order.{nonneg, positive, add-one-≤ℤ, ≤ℤ-mul}
 use Rattle.integers.specs.Linear.{le, eq, _&_, none!, linear, lin≤}
 use Rattle.integers.specs.Units.{widthTimesExtentLimit}
-use Rattle.integers.specs.Within.{Within, within-le, within-self}
+use Rattle.integers.specs.Magnitude.{abs, abs-nonneg}
+use Rattle.integers.specs.Within.{Within, within-le, within-self, abs-of-within}
 use Rattle.edge.specs.declared.Edge.{Edge}
 use Rattle.edge.specs.declared.Cell.{Cell}
 use Rattle.edge.specs.Walk.{extent, dx, ax}
 use Rattle.edge.specs.Laws.StepCount.{extent-pos}
 use Rattle.edge.specs.Room.{coordinateLimit, extentLimit, Room}
 use Rattle.edge.specs.Laws.Cells.{extent-at-most}
-use Rattle.integers.specs.Bits.{back}
+use Rattle.integers.specs.Bits.{back, back-is, result-is}
 use Rattle.integers.specs.Held.{held-number, Held, held-sub}
 
 pub coordinate : {x : ℤ} → Within (pos coordinateLimit) x → Held coordinateLimit (back x) x
@@ -31,6 +33,9 @@ difference p q = held-sub (coordinate q) (coordinate p)
 
 pub extent-within : (d : ℤ) → Within (pos extentLimit) d → Within (pos extentLimit) (pos (extent d))
 extent-within d w = within-le (extent-at-most d (lin≤ [] none! (search linear depth 40) tt) w) (within-self (nonneg (extent d)))
+
+pub magnitude : {z r : ℤ} → Within (pos extentLimit) z → mag r < 2 ^ 63 → r ≡ abs (back z) → Held extentLimit (back r) (abs z)
+magnitude {z} w k e = record { is = result-is k (e ∙ ap abs (back-is tt w)); within = within-le (abs-of-within w) (within-self (abs-nonneg z)) }
 
 -- ---- a cell
 module _ {e : Edge} {c : Cell} (r : Room e c) where
@@ -44,6 +49,3 @@ module _ {e : Edge} {c : Cell} (r : Room e c) where
 
   pub width-within : Within (pos widthTimesExtentLimit) (c .width)
   width-within = record { low = lin≤ (c .width ∷ []) (le width≥0) (search linear depth 40) tt; high = width-high }
-
-  pub half-high : {half : ℤ} → c .width ≡ half +ℤ half → pos 0 ≤ℤ half → half ≤ℤ pos widthTimesExtentLimit
-  half-high {half} m h = lin≤ (c .width ∷ half ∷ []) (eq m & le h & le width-high) (search linear depth 40) tt

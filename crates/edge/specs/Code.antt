@@ -1,20 +1,20 @@
 -- What the functions below the public ones ask and answer.
 --
 -- Definitions
---   HalfWith                                             which half holds two points
---   fromSides                                            how far two points lie from the side of their half
+--   beforeMiddle, halfWith, beforeHalf                    how far two points lie before the middle; the half that they lie in; the same in that half
+--   turned, quarterDetails                               the details of an edge in one quarter
 --   Closed, SamplesClosed                                a direction is between its sides, or on them
 --   beyondAt, nearAt, pieceSum,
 --   numeratorsOf, numeratorsAt                           the closed form at the four cuts
 --   heldAt, areaAt                                       that of the area
 --   roundedBy                                            three numerators, rounded
 --   AxisRoom, SamplesWithin                              the ranges that they ask for
-use mathlib.Core.Path.{_≡_}
 use Prim.Native.Nat.{ℕ, zero, suc}
-use lib.IntN.{ℤ, pos, natAbs, _+ℤ_, _-ℤ_, _*ℤ_}
+use lib.IntN.{ℤ, pos, negsuc, negℤ, natAbs, _+ℤ_, _-ℤ_, _*ℤ_}
 use lib.Signed.{_≤ℤ_}
 use Rattle.integers.specs.Units.{widthTimesExtentLimit}
 use Rattle.integers.specs.Within.{Within}
+use Rattle.integers.specs.Magnitude.{abs}
 use Rattle.integers.specs.MinMax.{min}
 use Rattle.integers.specs.Clamp.{clamp}
 use Rattle.integers.specs.Rounding.{roundHalfAway}
@@ -26,16 +26,29 @@ use Rattle.edge.specs.Walk.{beyond}
 use Rattle.edge.specs.Room.{coordinateLimit, extentLimit}
 
 -- ---- an edge in one quarter
--- r tells which half holds both p and q: 0 the first, 1 the second, 2 neither; the middle is in both
-pub data HalfWith (middle p q : ℤ) (r : ℕ) : Type 0 where
-  first : r ≡ 0 → p ≤ℤ middle → q ≤ℤ middle → HalfWith middle p q r
-  second : r ≡ 1 → middle ≤ℤ p → middle ≤ℤ q → HalfWith middle p q r
-  neither : r ≡ 2 → (p ≤ℤ middle → q ≤ℤ middle → ⊥) → (middle ≤ℤ p → middle ≤ℤ q → ⊥) → HalfWith middle p q r
+-- how far p and q lie before the middle of a range, w wide, from `side` on, added up: both its sides less both of them
+abbrev pub beforeMiddle : ℤ → ℤ → ℤ → ℤ → ℤ
+beforeMiddle side w p q = (side +ℤ (side +ℤ w)) -ℤ (p +ℤ q)
 
--- from two points in the first half, 0, or in the second, 1, to the side of that half, added up; u: how far they lie past the middle, added up
-abbrev pub fromSides : ℕ → ℤ → ℤ → ℤ
-fromSides zero w u = w +ℤ u
-fromSides (suc i) w u = w -ℤ u
+-- two points in one half that lie so far before the middle lie in the first, 0; and in the second, 1, where that is negative
+unfoldable pub halfWith : ℤ → ℕ
+halfWith (pos n) = 0
+halfWith (negsuc n) = 1
+
+-- and how far before the middle of that half, whose width is `half`
+unfoldable pub beforeHalf : ℤ → ℤ → ℤ
+beforeHalf (pos n) half = pos n -ℤ half
+beforeHalf (negsuc n) half = negsuc n +ℤ half
+
+-- "as h, with the sign turned in the lower half"
+abbrev pub turned : ℕ → ℤ → ℤ
+turned zero z = z
+turned (suc j) z = negℤ z
+
+-- the details, in a cell of width w, of an edge that runs by dx and dy in one of its quarters; u and v: how far its ends lie before the cell's middles. From both
+-- ends to the side of their half it is the width less that, either way.
+abbrev pub quarterDetails : ℤ → ℤ → ℤ → ℤ → ℤ → Details
+quarterDetails w u v dx dy = record { h = (w -ℤ abs u) *ℤ dy; v = negℤ ((w -ℤ abs v) *ℤ dx); d = turned (halfWith v) ((w -ℤ abs u) *ℤ dy) }
 
 -- ---- the four cuts
 -- after t steps the direction is between its sides, or on them

@@ -33,5 +33,7 @@ pub mod ClosedArea
 pub mod WalkInside
 -- cells in cells, and the room that an edge has in each
 pub mod Cells
+-- an edge in one quarter: whole values
+pub mod InQuarter
 -- the slanted edges of 01's letters F and G
 pub mod Letters

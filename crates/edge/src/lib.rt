@@ -38,6 +38,7 @@ ghost use Rattle.integers.specs.Rounding.{roundHalfAway};
 ghost use lib.Signed.{_≤ℤ_, _<ℤ_};
 ghost use Rattle.integers.specs.Units.{widthTimesExtentLimit};
 ghost use Rattle.integers.specs.Within.{Within};
+ghost use Rattle.integers.specs.Magnitude.{abs as absOf};
 ghost use Rattle.integers.specs.MinMax.{min, max};
 ghost use Rattle.integers.specs.Clamp.{clamp};
 ghost use Rattle.edge.specs.Walk.{extent as extentOf, sign as signOf, dx, dy, ax as axOf, ay as ayOf};
@@ -45,8 +46,7 @@ ghost use Rattle.edge.specs.Inside.{Inside};
 ghost use Rattle.edge.specs.Rounded.{details as detailsOf, roundedArea};
 ghost use Rattle.edge.specs.Cuts.{strip as stripSteps, stripOf, meet as meetOf, span as spanOf, toMiddle, cutsAt, rows};
 ghost use Rattle.edge.specs.Room.{coordinateLimit, extentLimit, crossingLimit, Measured, Even, Room};
-ghost use Rattle.edge.specs.Code.{AxisRoom, SamplesWithin, HalfWith, fromSides, SamplesClosed, beyondAt, nearAt, pieceSum, numeratorsAt, roundedBy, heldAt, areaAt};
-ghost use Rattle.edge.specs.Nested.{quarter, OnCell};
+ghost use Rattle.edge.specs.Code.{AxisRoom, SamplesWithin, halfWith, beforeHalf, quarterDetails, SamplesClosed, beyondAt, nearAt, pieceSum, numeratorsAt, roundedBy, heldAt, areaAt};
 ghost use Rattle.edge.specs.WalkOf.{IsWalk, Decides};
 use integers::div_round_half_away;
 
@@ -406,43 +406,55 @@ fn round_all(m: Details, n: i64) -> Details
 
 // ---- an edge in one quarter
 
-// Which half holds both p and q? 0 the first, 1 the second, 2 neither. The middle is in both.
-pub fn half_with(p: i64, q: i64, middle: i64) -> usize
-    ensures { λ r. ⌜ HalfWith middle p q r ⌝ }
+// `before` says how far both ends of an edge lie before the middle of a cell, added up: to the left of it, or above it. They lie behind it where that is
+// negative. If they lie in one half, it is the width less their distances from that half's side.
+
+fn abs(z: i64) -> i64
+    requires { ⌜ Within (pos extentLimit) z ⌝ }
+    ensures { λ r. ⌜ r ≡ absOf z ⌝ }
 {
-    if high(p, q) <= middle {
-        0
-    } else if middle <= low(p, q) {
-        1
+    if z < 0 { -z } else { z }
+}
+
+// Do both ends lie in one half, the middle with it? They do where they lie no farther from each other, by `run`, than both together from the middle.
+pub fn lies_in_half(run: i64, before: i64) -> bool
+    requires { ⌜ Within (pos extentLimit) run × Within (pos extentLimit) before ⌝ }
+    ensures { λ b. ⌜ Decides b (absOf run ≤ℤ absOf before) ⌝ }
+{
+    abs(run) <= abs(before)
+}
+
+// Which half: 0 the first, 1 the second.
+pub fn half_with(before: i64) -> usize
+    ensures { λ r. ⌜ r ≡ halfWith before ⌝ }
+{
+    if before < 0 { 1 } else { 0 }
+}
+
+// How far they lie before the middle of that half.
+pub fn before_half(before: i64, half: i64) -> i64
+    requires { ⌜ Within (pos extentLimit) before × Within (pos extentLimit) half ⌝ }
+    ensures { λ r. ⌜ r ≡ beforeHalf before half ⌝ }
+{
+    if before < 0 {
+        before + half
     } else {
-        2
+        before - half
     }
 }
 
-// From p and from q, both in the first half or both in the second, to the side of that half: the sum.
-fn from_sides(p: i64, q: i64, middle: i64, width: i64, second: usize) -> i64
-    requires { ⌜ Within (pos coordinateLimit) p × Within (pos coordinateLimit) q × Within (pos extentLimit) middle × Within (pos widthTimesExtentLimit) width ⌝ }
-    ensures { λ r. ⌜ r ≡ fromSides second width ((p -ℤ middle) +ℤ (q -ℤ middle)) ⌝ }
+// Along an edge in one quarter no tent bends: it is one piece from end to end, whose values are whole. In the upper half d is h, and in the lower it is minus h.
+// So the details are worked out from how far the ends lie before the cell's middles, and from the differences of the ends.
+pub fn quarter_details(width: i64, left: i64, above: i64, dx: i64, dy: i64) -> Details
+    requires { ⌜ Within (pos extentLimit) width × Within (pos extentLimit) left × Within (pos extentLimit) above × Within (pos extentLimit) dx × Within (pos extentLimit) dy ⌝ }
+    ensures { λ r. ⌜ r ≡ quarterDetails width left above dx dy ⌝ }
 {
-    let beyond = (p - middle) + (q - middle);
-    if second == 0 {
-        width + beyond
-    } else {
-        width - beyond
-    }
-}
-
-// Along an edge in quarter (x, y) no tent bends: it is one piece from end to end, whose values are whole. In the upper half d is h, and in the lower it is minus h.
-pub fn quarter_details(e: Edge, c: Cell, half: i64, x: usize, y: usize) -> Details
-    requires { ⌜ Room e c × (c .width ≡ half +ℤ half) × (pos 0 ≤ℤ half) × (x < 2) × (y < 2) × OnCell (quarter c half x y) e ⌝ }
-    ensures { λ r. ⌜ r ≡ detailsOf e c ⌝ }
-{
-    let h = from_sides(e.x0, e.x1, c.left + half, c.width, x) * (e.y1 - e.y0);
-    let v = from_sides(e.y0, e.y1, c.top + half, c.width, y) * (e.x1 - e.x0);
-    if y == 0 {
-        Details { h: h, v: -v, d: h }
-    } else {
+    let h = (width - abs(left)) * dy;
+    let v = (width - abs(above)) * dx;
+    if above < 0 {
         Details { h: h, v: -v, d: -h }
+    } else {
+        Details { h: h, v: -v, d: h }
     }
 }
 

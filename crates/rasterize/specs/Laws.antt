@@ -11,6 +11,8 @@ pub mod EdgeEntries
 pub mod OnSheet
 pub mod Contributions
 pub mod ReadyCells
+-- from cell to cell on the way down
+pub mod Stages
 -- a slanted walk in a cell and in its quarters
 pub mod SlantedCells
 -- the edges that a tile has in view, alone or on a sheet; and what such an edge adds

@@ -10,6 +10,8 @@ pub mod Contribution
 pub mod Contour
 -- what the functions ask of their callers
 pub mod Ready
+-- a cell on the way down to the smallest one that an edge lies in
+pub mod Stages
 -- a slanted walk from cell to cell
 pub mod Slanted
 -- a tile alone or on a sheet: how it has the edges, and what an edge adds then

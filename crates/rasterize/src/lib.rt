@@ -21,8 +21,10 @@ ghost use mathlib.Core.Bool.{true};
 ghost use Prim.Native.Nat.{_+_, _*_, _/_, _%_, _-_, _^_, _<_, _≤_};
 ghost use lib.ListN.{length, getD, set};
 ghost use lib.IntN.{pos, _+ℤ_, _*ℤ_};
-ghost use lib.Signed.{_<ℤ_};
+ghost use lib.Signed.{_≤ℤ_, _<ℤ_};
 ghost use Rattle.integers.specs.Within.{Within};
+ghost use Rattle.integers.specs.Magnitude.{abs};
+ghost use Rattle.edge.specs.Walk.{dx, dy};
 ghost use Rattle.edge.specs.Cuts.{span as spanOf};
 ghost use Rattle.edge.specs.WalkOf.{IsWalk, Decides};
 ghost use Rattle.edge.specs.Room.{Measured, Room};
@@ -31,13 +33,14 @@ ghost use Rattle.edge.specs.Nested.{seenFrom, OnRange, OnCell};
 ghost use Rattle.integers.specs.ListSum.{All};
 ghost use Rattle.integers.specs.Units.{greatestDepth, detailLimit};
 ghost use Rattle.accuracy.specs.Outline.{pointsOf, contoursOf, edgeCount, contourEdges, outlineEdges};
-ghost use Rattle.accuracy.specs.Tile.{tile as tileSquare};
+ghost use Rattle.accuracy.specs.Tile.{cellWidth, tile as tileSquare};
 ghost use Rattle.placement.specs.Placed.{placeable, placed};
 ghost use Rattle.rasterize.specs.Added.{added, entryOf};
 ghost use Rattle.rasterize.specs.Nodes.{quarters, quarterNode, nodeAt};
 ghost use Rattle.rasterize.specs.Contribution.{ownPart, contribution};
 ghost use Rattle.rasterize.specs.Contour.{edgeOf};
 ghost use Rattle.rasterize.specs.Ready.{sumLimit, Spare, Ready, Splits, SmallDetails, squareOf, Descent, Fits};
+ghost use Rattle.rasterize.specs.Stages.{stageAt, quarterStage, stageNode, StageRoom};
 ghost use Rattle.rasterize.specs.Views.{seenBy, rootPart, partTable, viewTable, InView};
 ghost use Rattle.slanted.specs.Pieces.{Moving};
 ghost use Rattle.slanted.specs.Parts.{halfOn};
@@ -70,6 +73,17 @@ pub struct Spot {
     pub level: usize,
     pub x: usize,
     pub y: usize,
+}
+
+// A cell on the way down to the smallest one that an edge lies in: its level, numbers and width, and how far both ends of the edge lie to the left of its
+// middle and above it, added up. Where the cell lies is not needed on the way.
+struct Stage {
+    level: usize,
+    x: usize,
+    y: usize,
+    width: usize,
+    left: i64,
+    above: i64,
 }
 
 // A tile's upper left corner on its sheet, in steps.
@@ -120,6 +134,14 @@ fn add_details(table: &mut [i64], first: usize, sign: i64, w: Details)
     add_at(table, first + 2, sign, w.d);
 }
 
+// How wide a tile of side 2^depth is, in steps.
+fn tile_width(depth: usize) -> usize
+    requires { ⌜ depth ≤ greatestDepth ⌝ }
+    ensures { λ r. ⌜ r ≡ cellWidth depth 0 ⌝ }
+{
+    STEPS_PER_PIXEL * haar::cells_across(depth)
+}
+
 // The whole tile of side 2^depth, which is the cell of level 0.
 fn tile_of(depth: usize) -> Node
     requires { ⌜ depth ≤ greatestDepth ⌝ }
@@ -132,7 +154,7 @@ fn tile_of(depth: usize) -> Node
         square: Cell {
             left: 0,
             top: 0,
-            width: (STEPS_PER_PIXEL * haar::cells_across(depth)) as i64,
+            width: tile_width(depth) as i64,
         },
     }
 }
@@ -257,7 +279,7 @@ fn add_slanted(
     };
     let w = slanted::details_of(l, k);
     add_details(table, haar::first_detail(level, x, y), sign, w);
-    if left > 1 {
+    if 1 < left {
         let p = Spot {
             level: level,
             x: x,
@@ -304,6 +326,66 @@ fn lies_on(e: Edge, width: i64) -> bool
     lie_across(e.x0, e.x1, width) && lie_across(e.y0, e.y1, width)
 }
 
+// The whole tile, for an edge on it.
+fn first_stage(e: Edge, depth: usize) -> Stage
+    requires { ⌜ (depth ≤ greatestDepth) × Measured e ⌝ }
+    ensures { λ r. ⌜ r ≡ stageAt e (nodeAt depth 0 0 0) ⌝ }
+{
+    let width = tile_width(depth);
+    let right = width as i64;
+    Stage {
+        level: 0,
+        x: 0,
+        y: 0,
+        width: width,
+        left: right - (e.x0 + e.x1),
+        above: right - (e.y0 + e.y1),
+    }
+}
+
+// Does the edge lie in one quarter of the cell?
+fn lies_in_quarter(p: Stage, e: Edge) -> bool
+    requires { ⌜ StageRoom p × Measured e ⌝ }
+    ensures { λ b. ⌜ Decides b ((abs (dx e) ≤ℤ abs (p .left)) × (abs (dy e) ≤ℤ abs (p .above))) ⌝ }
+{
+    edge::lies_in_half(e.x1 - e.x0, p.left) && edge::lies_in_half(e.y1 - e.y0, p.above)
+}
+
+// The quarter that it lies in.
+fn quarter_stage(p: Stage) -> Stage
+    requires { ⌜ StageRoom p ⌝ }
+    ensures { λ r. ⌜ r ≡ quarterStage p ⌝ }
+{
+    let half = p.width / 2;
+    let right = half as i64;
+    Stage {
+        level: p.level + 1,
+        x: 2 * p.x + edge::half_with(p.left),
+        y: 2 * p.y + edge::half_with(p.above),
+        width: half,
+        left: edge::before_half(p.left, right),
+        above: edge::before_half(p.above, right),
+    }
+}
+
+// The cell, with its square.
+fn stage_node(p: Stage) -> Node
+    requires { ⌜ StageRoom p ⌝ }
+    ensures { λ r. ⌜ r ≡ stageNode p ⌝ }
+{
+    let width = p.width as i64;
+    Node {
+        level: p.level,
+        x: p.x,
+        y: p.y,
+        square: Cell {
+            left: p.x as i64 * width,
+            top: p.y as i64 * width,
+            width: width,
+        },
+    }
+}
+
 // Adds an edge on the tile to each cell in one quarter of which it lies, from the whole tile down, or takes it out where the sign is -1. Its details there
 // are whole numbers, and no part of it lies inside the other three quarters. Answers the cell at which this ends: the smallest in which the edge lies, or
 // one that has no quarters.
@@ -311,22 +393,19 @@ fn descend(table: &mut [i64], e: Edge, sign: i64, depth: usize) -> Node
     requires { ⌜ Ready (now table) e depth (nodeAt depth 0 0 0) × OnCell (tileSquare depth) e × Within (pos 1) sign ⌝ }
     ensures { λ c. ⌜ Descent e sign depth (now (table .entry)) c (now (table .exit)) ⌝ }
 {
-    let mut c = tile_of(depth);
-    while c.level < depth {
-        let half = edge::half_of(c.square.width);
-        let x = edge::half_with(e.x0, e.x1, c.square.left + half);
-        let y = edge::half_with(e.y0, e.y1, c.square.top + half);
-        if x == 2 {
-            return c;
+    // the sign is in the differences, and so in the details
+    let across = sign * (e.x1 - e.x0);
+    let down = sign * (e.y1 - e.y0);
+    let mut p = first_stage(e, depth);
+    while p.level < depth {
+        if !lies_in_quarter(p, e) {
+            return stage_node(p);
         }
-        if y == 2 {
-            return c;
-        }
-        let w = edge::quarter_details(e, c.square, half, x, y);
-        add_details(table, haar::first_detail(c.level, c.x, c.y), sign, w);
-        c = quarter_of(c, x + 2 * y);
+        let w = edge::quarter_details(p.width as i64, p.left, p.above, across, down);
+        add_details(table, haar::first_detail(p.level, p.x, p.y), 1, w);
+        p = quarter_stage(p);
     }
-    c
+    stage_node(p)
 }
 
 // The same of any edge: for one that leaves the tile the way ends at the tile.

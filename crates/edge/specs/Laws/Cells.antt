@@ -2,23 +2,26 @@
 --
 -- Main results
 --   contains-refl, contains-trans, contains-quarter      down the quadtree every cell lies in the one that it began with
---   half-below, quarter-on                               an edge in a cell lies in a quarter, where `half_with` has found a half both ways
+--   half-view, half-below                                the first half or the second
+--   quarter-on, before-half                              an edge in a cell lies in a quarter, where its ends lie no farther apart than from the middle, both
+--                                                        ways; from the middle of the cell to that of the quarter
 --   extent-at-most, extent-times                         bounds of an extent
 --   difference-on, product-on                            two coordinates between two sides are at most the width apart; the product of two
 --                                                        between 0 and w is between 0 and w²
 --   sheet-measured                                       an edge on a sheet is in range
 --   sheet-room                                           so it has room in each even cell of the sheet whose width times the sheet's is in range
 --   details-on                                           the three details of an edge on a sheet, in a cell: at most the two widths' product
-use mathlib.Core.Path.{_≡_, subst⁻¹}
+use mathlib.Core.Path.{_≡_, refl, sym, _∙_, ap, subst⁻¹}
 use mathlib.Core.List.{[], _∷_}
 use Prim.Native.Nat.{ℕ, zero, suc, _<_}
 use native.Mathlib.Omega.{arith}
-use lib.IntN.{ℤ, pos, negsuc, _+ℤ_, _-ℤ_, _*ℤ_}
+use lib.IntN.{ℤ, pos, negsuc, negℤ, _+ℤ_, _-ℤ_, _*ℤ_}
 use lib.Signed.{_≤ℤ_}
 use Rattle.integers.specs.Units.{widthTimesExtentLimit}
 use Rattle.integers.specs.Order.{≤ℤ-trans, ≤ℤ-mul, ≤ℤ-mul-nonneg}
 use Rattle.integers.specs.Linear.{le, eq, _&_, none!, linear, lin≤}
-use Rattle.integers.specs.Magnitude.{abs}
+use Rattle.integers.specs.Magnitude.{abs, le-abs, neg-le-abs}
+use Rattle.integers.specs.Ring.{read, comb}
 use Rattle.integers.specs.Within.{Within, within-le, abs-of-within}
 use Rattle.edge.specs.declared.Edge.{Edge}
 use Rattle.edge.specs.declared.Cell.{Cell}
@@ -26,7 +29,7 @@ use Rattle.edge.specs.Walk.{extent, dx, dy}
 use Rattle.edge.specs.Room.{coordinateLimit, Measured, Even, Room}
 use Rattle.edge.specs.Rounded.{details, DetailsWithin}
 use Rattle.edge.specs.Nested.{quarter, Contains, OnRange, OnCell, Sheet}
-use Rattle.edge.specs.Code.{HalfWith, first, second, neither}
+use Rattle.edge.specs.Code.{beforeMiddle, halfWith, beforeHalf}
 use Rattle.edge.specs.Laws.Bounds.{rounded-h-bound, rounded-v-bound, rounded-d-bound}
 
 -- ---- cells in cells
@@ -62,35 +65,70 @@ contains-quarter c half e h i j k l =
     record { left = x .0; right = x .1; top = y .0; bottom = y .1 }
 
 -- ---- an edge in a cell lies in a quarter, where each of its directions stays in one half
-pub half-below : {middle p q : ℤ} {r : ℕ} → HalfWith middle p q r → (r ≡ 2 → ⊥) → r < 2
-half-below (first e i j) n = omega arith
-half-below (second e i j) n = omega arith
-half-below (neither e i j) n = absurd (n e)
+pub data HalfView (u : ℤ) : Type 0 where
+  first : halfWith u ≡ 0 → abs u ≡ u → ((half : ℤ) → beforeHalf u half ≡ u -ℤ half) → HalfView u
+  second : halfWith u ≡ 1 → abs u ≡ negℤ u → ((half : ℤ) → beforeHalf u half ≡ u +ℤ half) → HalfView u
 
-half-on : {side w half p q : ℤ} {r : ℕ} → w ≡ half +ℤ half → OnRange side w p → OnRange side w q → HalfWith (side +ℤ half) p q r → (r ≡ 2 → ⊥)
-    → OnRange (side +ℤ pos r *ℤ half) half p × OnRange (side +ℤ pos r *ℤ half) half q
-half-on {side} {w} {half} {p} {q} m i j (first e k l) n = subst⁻¹ (λ r. OnRange (side +ℤ pos r *ℤ half) half p × OnRange (side +ℤ pos r *ℤ half) half q) e (on p i k, on q j l)
-  where
-    on : (x : ℤ) → OnRange side w x → x ≤ℤ (side +ℤ half) → OnRange (side +ℤ pos 0 *ℤ half) half x
-    on x o h = record {
-      low = lin≤ (side ∷ half ∷ x ∷ []) (le (o .low)) (search linear depth 40) tt;
-      high = lin≤ (side ∷ half ∷ x ∷ []) (le h) (search linear depth 40) tt;
-    }
-half-on {side} {w} {half} {p} {q} m i j (second e k l) n = subst⁻¹ (λ r. OnRange (side +ℤ pos r *ℤ half) half p × OnRange (side +ℤ pos r *ℤ half) half q) e (on p i k, on q j l)
-  where
-    on : (x : ℤ) → OnRange side w x → (side +ℤ half) ≤ℤ x → OnRange (side +ℤ pos 1 *ℤ half) half x
-    on x o h = record {
-      low = lin≤ (side ∷ half ∷ x ∷ []) (le h) (search linear depth 40) tt;
-      high = lin≤ (side ∷ half ∷ w ∷ x ∷ []) (le (o .high) & eq m) (search linear depth 40) tt;
-    }
-half-on m i j (neither e k l) n = absurd (n e)
+pub half-view : (u : ℤ) → HalfView u
+unfolding abs halfWith beforeHalf
+half-view (pos n) = first refl refl (λ half. refl)
+half-view (negsuc n) = second refl refl (λ half. refl)
 
-pub quarter-on : (c : Cell) (half : ℤ) {e : Edge} {x y : ℕ} → c .width ≡ half +ℤ half → OnCell c e
-    → HalfWith (c .left +ℤ half) (e .x0) (e .x1) x → (x ≡ 2 → ⊥) → HalfWith (c .top +ℤ half) (e .y0) (e .y1) y → (y ≡ 2 → ⊥)
-    → OnCell (quarter c half x y) e
-quarter-on c half m o i h j k =
-    let x = half-on m (o .x0) (o .x1) i h in
-    let y = half-on m (o .y0) (o .y1) j k in
+pub half-below : (u : ℤ) → halfWith u < 2
+unfolding halfWith
+half-below (pos n) = omega arith
+half-below (negsuc n) = omega arith
+
+abbrev InHalf : ℤ → ℤ → ℤ → ℤ → ℕ → Type 0
+InHalf side half p q i = OnRange (side +ℤ pos i *ℤ half) half p × OnRange (side +ℤ pos i *ℤ half) half q
+
+-- the larger of p and q is at most the middle, or the smaller at least that: their sum and their difference say which
+-- p and q in a range of width w from `side` on
+module _ (side w half p q : ℤ) (m : w ≡ half +ℤ half) where
+  abbrev u : ℤ
+  u = beforeMiddle side w p q
+
+  half-on : OnRange side w p → OnRange side w q → abs (q -ℤ p) ≤ℤ abs u → InHalf side half p q (halfWith u)
+  half-on i j k = go (half-view u)
+    where
+      go : HalfView u → InHalf side half p q (halfWith u)
+      go (first e f g) = subst⁻¹ (InHalf side half p q) e (
+        record {
+          low = lin≤ (side ∷ half ∷ p ∷ []) (le (i .low)) (search linear depth 40) tt;
+          high = lin≤ (side ∷ half ∷ w ∷ p ∷ q ∷ abs u ∷ abs (q -ℤ p) ∷ []) (le k & eq f & eq m & le (neg-le-abs (q -ℤ p))) (search linear depth 40) tt;
+        },
+        record {
+          low = lin≤ (side ∷ half ∷ q ∷ []) (le (j .low)) (search linear depth 40) tt;
+          high = lin≤ (side ∷ half ∷ w ∷ p ∷ q ∷ abs u ∷ abs (q -ℤ p) ∷ []) (le k & eq f & eq m & le (le-abs (q -ℤ p))) (search linear depth 40) tt;
+        },
+      )
+      go (second e f g) = subst⁻¹ (InHalf side half p q) e (
+        record {
+          low = lin≤ (side ∷ half ∷ w ∷ p ∷ q ∷ abs u ∷ abs (q -ℤ p) ∷ []) (le k & eq f & eq m & le (le-abs (q -ℤ p))) (search linear depth 40) tt;
+          high = lin≤ (side ∷ half ∷ w ∷ p ∷ []) (le (i .high) & eq m) (search linear depth 40) tt;
+        },
+        record {
+          low = lin≤ (side ∷ half ∷ w ∷ p ∷ q ∷ abs u ∷ abs (q -ℤ p) ∷ []) (le k & eq f & eq m & le (neg-le-abs (q -ℤ p))) (search linear depth 40) tt;
+          high = lin≤ (side ∷ half ∷ w ∷ q ∷ []) (le (j .high) & eq m) (search linear depth 40) tt;
+        },
+      )
+
+  -- from the middle of the whole to that of the half
+  pub before-half : beforeMiddle (side +ℤ pos (halfWith u) *ℤ half) half p q ≡ beforeHalf u half
+  before-half = go (half-view u)
+    where
+      go : HalfView u → beforeMiddle (side +ℤ pos (halfWith u) *ℤ half) half p q ≡ beforeHalf u half
+      go (first e f g) =
+          ap (λ i. beforeMiddle (side +ℤ pos i *ℤ half) half p q) e ∙ comb (side ∷ w ∷ half ∷ p ∷ q ∷ []) (sym m) (search read depth 40) tt ∙ sym (g half)
+      go (second e f g) =
+          ap (λ i. beforeMiddle (side +ℤ pos i *ℤ half) half p q) e ∙ comb (side ∷ w ∷ half ∷ p ∷ q ∷ []) (sym m) (search read depth 40) tt ∙ sym (g half)
+
+pub quarter-on : (c : Cell) (half : ℤ) {e : Edge} → c .width ≡ half +ℤ half → OnCell c e
+    → abs (dx e) ≤ℤ abs (beforeMiddle (c .left) (c .width) (e .x0) (e .x1)) → abs (dy e) ≤ℤ abs (beforeMiddle (c .top) (c .width) (e .y0) (e .y1))
+    → OnCell (quarter c half (halfWith (beforeMiddle (c .left) (c .width) (e .x0) (e .x1))) (halfWith (beforeMiddle (c .top) (c .width) (e .y0) (e .y1)))) e
+quarter-on c half {e} m o i j =
+    let x = half-on (c .left) (c .width) half (e .x0) (e .x1) m (o .x0) (o .x1) i in
+    let y = half-on (c .top) (c .width) half (e .y0) (e .y1) m (o .y0) (o .y1) j in
     record { x0 = x .0; y0 = y .0; x1 = x .1; y1 = y .1 }
 
 -- ---- room

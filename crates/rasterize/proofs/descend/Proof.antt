@@ -1,237 +1,232 @@
 -- From cell to cell, as long as the edge lies in one quarter.
-use mathlib.Core.Path.{_≡_, refl, sym, _∙_, ap, subst, subst⁻¹}
-use mathlib.Core.List.{[], _∷_}
+use mathlib.Core.Path.{_≡_, refl, sym, _∙_, ap, ap₂, subst, subst⁻¹}
 use Prim.Native.Nat.{ℕ, suc, _+_, _*_, _-_, _<_}
 use native.Mathlib.Omega.{arith}
-use lib.IntN.{ℤ, pos, _+ℤ_}
+use lib.IntN.{ℤ, pos, _-ℤ_, _*ℤ_}
 use lib.Signed.{_≤ℤ_}
 use mir.Syntax.{w64}
 use mir.Val.{toZ}
-use mir.Facts.{toZ-ofZ}
-use borrow.Author.Needs.{needs}
-use Rattle.integers.specs.Linear.{le, eq, _&_, linear, lin≤}
+use mir.Facts.{toZ-ofZ, toZ-pos}
+use borrow.Author.Tests.{not-false}
+use Rattle.integers.specs.Units.{greatestDepth}
+use Rattle.integers.specs.Order.{nonneg, pos-≤ℤ}
+use Rattle.integers.specs.Magnitude.{abs}
 use Rattle.integers.specs.Within.{Within, within-le, within-self}
-use Rattle.integers.specs.Bits.{back, back-is, within-back}
-use Rattle.integers.specs.Held.{Held, held-number, held-add, held-fits, held-back}
+use Rattle.integers.specs.Bits.{back, back-is, within-back, fits-within}
+use Rattle.integers.specs.Held.{Held, held-number, held-sub, held-mul, held-fits, held-back, held-within}
 use Rattle.edge.specs.declared.Edge.{Edge}
-use Rattle.edge.specs.declared.Cell.{Cell as Square}
-use Rattle.edge.specs.Room.{coordinateLimit, Even, Room}
-use Rattle.edge.specs.Code.{HalfWith}
-use Rattle.edge.specs.Nested.{quarter, OnCell}
-use Rattle.edge.specs.Laws.Cells.{half-below, quarter-on}
-use Rattle.accuracy.specs.Laws.Squares.{square-tile}
+use Rattle.edge.specs.Walk.{dx, dy}
+use Rattle.edge.specs.Room.{coordinateLimit, extentLimit, Measured}
+use Rattle.edge.specs.Laws.Cells.{sheet-measured}
+use Rattle.edge.specs.Code.{quarterDetails}
 use Rattle.rasterize.specs.declared.Node.{Node}
-use Rattle.rasterize.specs.Nodes.{quarterNode}
-use Rattle.rasterize.specs.Ready.{SmallDetails, Ready, Splits, Descent}
-use Rattle.rasterize.specs.Laws.Nodes.{halfWidth-is}
-use Rattle.rasterize.specs.Laws.OnSheet.{on-sheet-width, on-sheet-room, on-sheet-details}
-use Rattle.rasterize.specs.Laws.ReadyCells.{ready-splits, ready-own, ready-first}
-use Rattle.rasterize.proofs.Descending.{descent-sign, descent-start, descent-ready, descent-step, descent-length, numbered-on}
+use Rattle.rasterize.specs.declared.Stage.{Stage}
+use Rattle.rasterize.specs.Ready.{SmallDetails, Ready, Descent}
+use Rattle.rasterize.specs.Stages.{stageNode, StageRoom}
+use Rattle.rasterize.specs.Laws.Spare.{signed-within}
+use Rattle.rasterize.specs.Laws.OnSheet.{on-sheet-details}
+use Rattle.rasterize.specs.Laws.ReadyCells.{ready-own, ready-first}
+use Rattle.rasterize.proofs.Descending.{descent-sign, descent-length, below, OnWay, way-start, way-room, way-node, deeper, way-ready, way-details, way-first, way-step}
+use Rattle.edge.specs.Rounded.{details}
+use Rattle.edge.specs.Laws.InQuarter.{signed as signed-by}
 use Rattle.rasterize.proofs.descend.Statement.{statement}
 use Rattle.rasterize.proofs.descend.Tie as tie
 
 abbrev Inv-loop : tie.InvT-loop
-Inv-loop table₀ e sign depth c₀ table c = Descent e (toZ w64 sign) depth table₀ c table × OnCell (c .square) e
+Inv-loop table₀ e sign depth across down p₀ table p = OnWay e (toZ w64 sign) depth table₀ p table
 
 abbrev μ-loop : tie.MeasureT-loop
-μ-loop table₀ e sign depth c₀ table c = depth - c .level
+μ-loop table₀ e sign depth across down p₀ table p = depth - p .level
 
-tile-of-requires : tie.Need-tile-of-requires Inv-loop μ-loop
-tile-of-requires c κs = let h = c .pre .0 .shallow in omega (arith, h)
+-- ---- before the loop
+module _ (s : tie.Start Inv-loop μ-loop) where
+  abbrev e : Edge
+  e = s .args .e
+
+  abbrev sign : ℤ
+  sign = back (s .args .sign)
+
+  measured : Measured e
+  measured = let p = s .pre .0 .on-sheet in sheet-measured (p .is-sheet) (p .edge-on)
+
+  signed : Within (pos 1) sign
+  signed = within-back (s .fits .sign) (s .pre .2)
+
+  -- one direction
+  module _ {p q : ℤ} (i : Within (pos coordinateLimit) p) (j : Within (pos coordinateLimit) q) where
+    run : Held extentLimit (back q -ℤ back p) (q -ℤ p)
+    run = held-sub (held-number tt j) (held-number tt i)
+
+    turned : Held extentLimit (sign *ℤ back (back q -ℤ back p)) (sign *ℤ (q -ℤ p))
+    turned = held-mul {a = 1} (record { is = refl; within = signed }) (held-back tt run)
+
+  across : Held extentLimit (sign *ℤ back (back (e .x1) -ℤ back (e .x0))) (sign *ℤ dx e)
+  across = turned (measured .x0) (measured .x1)
+
+  down : Held extentLimit (sign *ℤ back (back (e .y1) -ℤ back (e .y0))) (sign *ℤ dy e)
+  down = turned (measured .y0) (measured .y1)
+
+sub-across : tie.Need-sub-across Inv-loop μ-loop
+sub-across c = let s = c .before .before in held-fits tt (run s (measured s .x0) (measured s .x1))
+
+mul-across : tie.Need-mul-across Inv-loop μ-loop
+mul-across c = held-fits tt (across (c .before .before))
+
+abbrev start : tie.After-struct-told2 Inv-loop μ-loop → tie.Start Inv-loop μ-loop
+start c = c .before .before .before .before
+
+sub-down : tie.Need-sub-down Inv-loop μ-loop
+sub-down c = let s = start c in held-fits tt (run s (measured s .y0) (measured s .y1))
+
+mul-down : tie.Need-mul-down Inv-loop μ-loop
+mul-down c = held-fits tt (down (start c))
+
+first-stage-requires : tie.Need-first-stage-requires Inv-loop μ-loop
+first-stage-requires c κs = let s = start c in (omega (arith, s .pre .0 .shallow), measured s)
 
 loop-holds : tie.Need-loop-holds Inv-loop μ-loop
-loop-holds c =
-    let s = c .before in
-    let is = c .tile-of .ensures in (
-      descent-start (back (s .args .sign)) (s .pre .0) is,
-      subst⁻¹ (λ s. OnCell s (c .before .args .e)) (ap (λ (n : Node). n .square) is ∙ square-tile (s .args .depth)) (s .pre .1),
-    )
+loop-holds c = let s = start (c .before) in way-start (sign s) (s .pre .0) (s .pre .1) (c .first-stage .ensures)
 
--- ---- a cell that has quarters
-module _ (c : tie.Then1 Inv-loop μ-loop) where
-  abbrev start : tie.Start Inv-loop μ-loop
-  start = c .before .before .before .before
+-- ---- a cell that may have quarters
+abbrev entered : tie.At-loop Inv-loop μ-loop → tie.Start Inv-loop μ-loop
+entered c = start (c .before .before)
 
-  abbrev cell : Node
-  cell = c .before .before .loop .c
+way : (c : tie.At-loop Inv-loop μ-loop) → OnWay (e (entered c)) (sign (entered c)) (entered c .args .depth) (entered c .args .table .now) (c .loop .p) (c .loop .table)
+way c = c .loop .inv
 
-  ready : Ready (c .before .before .loop .table) (start .args .e) (suc (c .before .before .loop .inv .0 .left - 1)) cell
-  ready = descent-ready (c .before .before .loop .inv .0) (c .if1 .taken)
+-- where it ends
+ended : (c : tie.At-loop Inv-loop μ-loop) {r : Node} → r ≡ stageNode (c .loop .p)
+    → Descent (e (entered c)) (entered c .args .sign) (entered c .args .depth) (entered c .args .table .now) r (c .loop .table)
+ended c k = descent-sign (toZ-ofZ (entered c .fits .sign)) (way-node (way c) k)
 
-  splits : Splits cell
-  splits = ready-splits ready
+lies-in-quarter-requires : tie.Need-lies-in-quarter-requires Inv-loop μ-loop
+lies-in-quarter-requires c κs = let l = c .before .before in (way-room (way l), measured (entered l))
 
-  room : Room (start .args .e) (cell .square)
-  room = on-sheet-room (ready .on-sheet)
-
-  signed : Within (pos 1) (back (start .args .sign))
-  signed = within-back (start .fits .sign) (start .pre .2)
-
-  width-is : back (cell .square .width) ≡ cell .square .width
-  width-is = back-is tt (within-le (splits .wide) (within-self (on-sheet-width (ready .on-sheet))))
-
-half-of-requires : tie.Need-half-of-requires Inv-loop μ-loop
-half-of-requires c κs = subst⁻¹ Even (width-is (c .before)) (splits (c .before) .even)
-
-half-same : {m m′ p p′ q q′ : ℤ} {r : ℕ} → m ≡ m′ → p ≡ p′ → q ≡ q′ → HalfWith m p q r → HalfWith m′ p′ q′ r
-half-same {m′ = m′} {p} {p′} {q} {q′} {r} i j k h =
-    subst (λ z. HalfWith m′ p′ z r) k (subst (λ z. HalfWith m′ z q r) j (subst (λ z. HalfWith z p q r) i h))
-
--- ---- half of its width, and its middles
-module _ (c : tie.After-half-of Inv-loop μ-loop) where
-  abbrev here : tie.Then1 Inv-loop μ-loop
-  here = c .before .before
-
-  abbrev square : Square
-  square = cell here .square
-
-  abbrev half : ℤ
-  half = back (c .half-of .result)
-
-  half-is : half ≡ c .half-of .result
-  half-is = toZ-ofZ (record { sfits = c .half-of .ok })
-
-  even : square .width ≡ half +ℤ half
-  even = sym (width-is here) ∙ c .half-of .ensures .0 ∙ ap (λ z. z +ℤ z) (sym half-is)
-
-  half≥0 : pos 0 ≤ℤ half
-  half≥0 = subst⁻¹ (λ z. pos 0 ≤ℤ z) half-is (c .half-of .ensures .1)
-
-  half-within : Within (pos coordinateLimit) half
-  half-within =
-      within-le (lin≤ (square .width ∷ half ∷ []) (eq even & le half≥0 & le (splits here .wide)) (search linear depth 40) tt) (within-self half≥0)
-
-  middle : {side : ℤ} → Within (pos coordinateLimit) side → Held (coordinateLimit + coordinateLimit) (back side +ℤ half) (side +ℤ half)
-  middle i = held-add (held-number tt i) (record { is = refl; within = half-within })
-
-  -- what `half_with` answers, without bits
-  told : {side p q : ℤ} {r : ℕ} → Within (pos coordinateLimit) side → Within (pos coordinateLimit) p → Within (pos coordinateLimit) q
-      → HalfWith (back (back side +ℤ half)) (back p) (back q) r → HalfWith (side +ℤ half) p q r
-  told i j k h = half-same (held-back tt (middle i) .is) (back-is tt j) (back-is tt k) h
-
-add-half-with : tie.Need-add-half-with Inv-loop μ-loop
-add-half-with c = let h = c .before .before in held-fits tt (middle h (splits (here h) .left))
-
-add-half-with-2 : tie.Need-add-half-with-2 Inv-loop μ-loop
-add-half-with-2 c = let h = c .before .before .before .before .before .before .before in held-fits tt (middle h (splits (here h) .top))
-
--- ---- where it ends
-module _ (c : tie.After-half-with2 Inv-loop μ-loop) where
-  abbrev first : tie.After-half-with Inv-loop μ-loop
-  first = c .before .before .before .before .before
-
-  abbrev halved : tie.After-half-of Inv-loop μ-loop
-  halved = first .before .before .before .before .before
-
-  abbrev top : tie.Then1 Inv-loop μ-loop
-  top = here halved
-
-  abbrev e : Edge
-  e = start top .args .e
-
-  descent : Descent e (start top .args .sign) (start top .args .depth) (start top .args .table .now) (cell top) (top .before .before .loop .table)
-  descent = descent-sign (toZ-ofZ (start top .fits .sign)) (top .before .before .loop .inv .0)
-
-  x-half : HalfWith (square halved .left +ℤ half halved) (e .x0) (e .x1) (first .half-with .result)
-  x-half = let r = room top in told halved (r .left) (r .edge .x0) (r .edge .x1) (first .half-with .ensures)
-
-  y-half : HalfWith (square halved .top +ℤ half halved) (e .y0) (e .y1) (c .half-with2 .result)
-  y-half = let r = room top in told halved (r .top) (r .edge .y0) (r .edge .y1) (c .half-with2 .ensures)
+stage-node-requires : tie.Need-stage-node-requires Inv-loop μ-loop
+stage-node-requires c κs = way-room (way (c .before .before .before .before))
 
 same-length : tie.Need-same-length Inv-loop μ-loop
-same-length c = descent-length (descent (c .before))
+same-length c = descent-length (ended (c .before .before .before .before .before) (c .stage-node .ensures))
 
 returns : tie.Need-returns Inv-loop μ-loop
-returns c = descent (c .before)
-
-same-length-2 : tie.Need-same-length-2 Inv-loop μ-loop
-same-length-2 c = descent-length (descent (c .before .before))
-
-returns-2 : tie.Need-returns-2 Inv-loop μ-loop
-returns-2 c = descent (c .before .before)
+returns c = ended (c .before .before .before .before .before) (c .stage-node .ensures)
 
 -- ---- where it goes on
-module _ (c : tie.Else3 Inv-loop μ-loop) where
-  abbrev halves : tie.After-half-with2 Inv-loop μ-loop
-  halves = c .before .before
+module _ (c : tie.Else2 Inv-loop μ-loop) where
+  abbrev here : tie.At-loop Inv-loop μ-loop
+  here = c .before .before .before .before
 
-  abbrev x : ℕ
-  x = first halves .half-with .result
+  abbrev s : tie.Start Inv-loop μ-loop
+  s = entered here
 
-  abbrev y : ℕ
-  y = halves .half-with2 .result
+  abbrev p : Stage
+  p = here .loop .p
 
-  x-below : x < 2
-  x-below = half-below (x-half halves) (c .before .if2 .left)
+  room : StageRoom p
+  room = way-room (way here)
 
-  y-below : y < 2
-  y-below = half-below (y-half halves) (c .if3 .left)
+  above : p .level < s .args .depth
+  above = c .before .before .if1 .taken
 
-  on : OnCell (quarter (square (halved halves)) (half (halved halves)) x y) (e halves)
-  on = quarter-on (square (halved halves)) (half (halved halves)) (even (halved halves)) (top halves .before .before .loop .inv .1)
-      (x-half halves) (c .before .if2 .left) (y-half halves) (c .if3 .left)
+  lies : (abs (dx (e s)) ≤ℤ abs (p .left)) × (abs (dy (e s)) ≤ℤ abs (p .above))
+  lies = c .before .lies-in-quarter .ensures .yes (not-false _ (c .if2 .left))
 
-  on-numbered : OnCell (quarterNode (cell (top halves)) (x + 2 * y) .square) (e halves)
-  on-numbered =
-      let h = halved halves in
-      numbered-on (cell (top halves)) (halfWidth-is (square h) (half h) (even h) (half≥0 h)) x-below y-below on
+  width : Held coordinateLimit (toZ w64 (p .width)) (pos (p .width))
+  width = record { is = toZ-pos w64 (omega (arith, room .wide)); within = within-le (pos-≤ℤ (room .wide)) (within-self (nonneg (p .width))) }
+
+cast-quarter-details : tie.Need-cast-quarter-details Inv-loop μ-loop
+cast-quarter-details c = record { sfits = omega (arith, room (c .before) .wide) }
 
 quarter-details-requires : tie.Need-quarter-details-requires Inv-loop μ-loop
 quarter-details-requires c κs =
-    let h = halved (halves c) in (room (here h), even h, half≥0 h, x-below c, y-below c, on c)
+    let k = c .before .before .before in
+    let r = room k in (
+      within-le (pos-≤ℤ (omega arith)) (held-within (width k)),
+      within-back (fits-within tt (r .left)) (r .left),
+      within-back (fits-within tt (r .above)) (r .above),
+      held-within (held-back tt (across (s k))),
+      held-within (held-back tt (down (s k))),
+    )
+
+-- what the two calls answer
+abbrev going-on : tie.After-quarter-details Inv-loop μ-loop → tie.Else2 Inv-loop μ-loop
+going-on c = c .before .before .before .before
+
+abbrev found : tie.After-first-detail Inv-loop μ-loop → tie.After-quarter-details Inv-loop μ-loop
+found c = c .before .before
 
 first-detail-requires : tie.Need-first-detail-requires Inv-loop μ-loop
-first-detail-requires c κs = let r = splits (top (halves (c .before .before))) in (r .shallow, r .x-below, r .y-below)
+first-detail-requires c κs =
+    let k = going-on (c .before) in
+    (omega (arith, above k, s k .pre .0 .shallow), room k .x-below, room k .y-below)
+
+details-same : {w w′ u u′ v v′ x x′ y y′ : ℤ} → w ≡ w′ → u ≡ u′ → v ≡ v′ → x ≡ x′ → y ≡ y′ → quarterDetails w u v x y ≡ quarterDetails w′ u′ v′ x′ y′
+details-same {w} {w′} {u} {u′} {v} {v′} {x} {x′} {y} {y′} i j k l m =
+    ap₂ (λ w u. quarterDetails w u v x y) i j ∙ ap₂ (λ v x. quarterDetails w′ u′ v x y) k l ∙ ap (λ y. quarterDetails w′ u′ v′ x′ y) m
+
+module _ (c : tie.After-quarter-details Inv-loop μ-loop) where
+  abbrev k : tie.Else2 Inv-loop μ-loop
+  k = going-on c
+
+  abbrev cell : Node
+  cell = way (here k) .cell
+
+  ready : Ready (here k .loop .table) (e (s k)) (suc (below (way (here k) .descent) (deeper (way (here k)) (above k) (lies k)))) cell
+  ready = way-ready (way (here k)) (above k) (lies k)
+
+  -- the details, without bits
+  details-are : c .quarter-details .result ≡ signed-by (sign (s k)) (details (e (s k)) (cell .square))
+  details-are =
+      let r = room k in
+      way-details (way (here k)) (above k) (lies k)
+      (c .quarter-details .ensures
+      ∙ details-same (width k .is) (back-is tt (r .left)) (back-is tt (r .above)) (held-back tt (across (s k)) .is) (held-back tt (down (s k)) .is))
+
+  small : SmallDetails (c .quarter-details .result)
+  small =
+      let d = on-sheet-details (ready .on-sheet) in
+      let t = signed (s k) in
+      subst⁻¹ SmallDetails details-are (record { h = signed-within t (d .h); v = signed-within t (d .v); d = signed-within t (d .d) })
 
 add-details-requires : tie.Need-add-details-requires Inv-loop μ-loop
 add-details-requires c κs =
-    let q = c .before .before in
-    let t = top (halves (q .before)) in (
-      ready-first (ready t) (c .first-detail .ensures),
-      ready-own (ready t),
-      subst⁻¹ SmallDetails (q .quarter-details .ensures) (on-sheet-details (ready t .on-sheet)),
-      signed t,
+    let f = found c in (
+      ready-first (ready f) (way-first (way (here (k f))) (above (k f)) (lies (k f)) (c .first-detail .ensures)),
+      ready-own (ready f),
+      small f,
+      within-self (nonneg 1),
     )
 
 -- from the addition back
-abbrev going-on : tie.After-table Inv-loop μ-loop → tie.Else3 Inv-loop μ-loop
-going-on c = c .before .before .before .before .before
+abbrev done : tie.After-table Inv-loop μ-loop → tie.After-first-detail Inv-loop μ-loop
+done c = c .before .before
 
-mul-quarter-of : tie.Need-mul-quarter-of Inv-loop μ-loop
-mul-quarter-of c = record { fits = omega (arith, y-below (going-on c)) }
-
-add-quarter-of : tie.Need-add-quarter-of Inv-loop μ-loop
-add-quarter-of c = record { fits = omega (arith, x-below (going-on c), y-below (going-on c)) }
-
-quarter-of-requires : tie.Need-quarter-of-requires Inv-loop μ-loop
-quarter-of-requires c κs = (splits (top (halves (going-on c))), omega (arith, x-below (going-on c), y-below (going-on c)))
+quarter-stage-requires : tie.Need-quarter-stage-requires Inv-loop μ-loop
+quarter-stage-requires c κs = room (going-on (found (done c)))
 
 loop-less : tie.Need-loop-less Inv-loop μ-loop
 loop-less c =
-    let t = top (halves (going-on (c .before))) in
-    let deeper : c .quarter-of .result .level ≡ suc (cell t .level) = ap (λ (n : Node). n .level) (c .quarter-of .ensures) in
-    omega (arith, deeper, t .if1 .taken)
+    let k = going-on (found (done (c .before))) in
+    let deeper : c .quarter-stage .result .level ≡ suc (p k .level) = ap (λ (n : Stage). n .level) (c .quarter-stage .ensures) in
+    omega (arith, deeper, above k)
 
 loop-again : tie.Need-loop-again Inv-loop μ-loop
 loop-again c =
-    let a = c .before .before in
-    let k = going-on (c .before) in
-    let t = top (halves k) in (
-      descent-step (t .before .before .loop .inv .0) (t .if1 .taken) (signed t) (omega (arith, x-below k, y-below k)) (on-numbered k)
-          (a .before .before .before .quarter-details .ensures) (a .before .first-detail .ensures) (a .add-details .ensures) (c .quarter-of .ensures),
-      subst⁻¹ (λ (n : Node). OnCell (n .square) (e (halves k))) (c .quarter-of .ensures) (on-numbered k),
-    )
+    let f = done (c .before) in
+    let k = going-on (found f) in
+    let o = way (here k) in
+    way-step o (above k) (lies k) (signed (s k)) (details-are (found f)) (way-first o (above k) (lies k) (f .first-detail .ensures))
+    (c .before .before .add-details .ensures) (c .quarter-stage .ensures)
 
 -- ---- no quarters
-module _ (c : tie.Else1 Inv-loop μ-loop) where
-  last : Descent (c .before .before .before .before .args .e) (c .before .before .before .before .args .sign) (c .before .before .before .before .args .depth) (c .before .before .before .before .args .table .now) (c .before .before .loop .c) (c .before .before .loop .table)
-  last = descent-sign (toZ-ofZ (c .before .before .before .before .fits .sign)) (c .before .before .loop .inv .0)
+stage-node-requires-2 : tie.Need-stage-node-requires-2 Inv-loop μ-loop
+stage-node-requires-2 c κs = way-room (way (c .before .before))
 
-same-length-3 : tie.Need-same-length-3 Inv-loop μ-loop
-same-length-3 c = descent-length (last c)
+same-length-2 : tie.Need-same-length-2 Inv-loop μ-loop
+same-length-2 c = descent-length (ended (c .before .before .before) (c .stage-node2 .ensures))
 
-returns-3 : tie.Need-returns-3 Inv-loop μ-loop
-returns-3 c = last c
+returns-2 : tie.Need-returns-2 Inv-loop μ-loop
+returns-2 c = ended (c .before .before .before) (c .stage-node2 .ensures)
 
 pub descend-spec : {M : Type 1} → statement M
 descend-spec =
@@ -239,24 +234,23 @@ descend-spec =
     (tie.spec
     Inv-loop
     μ-loop
-    tile-of-requires
+    sub-across
+    mul-across
+    sub-down
+    mul-down
+    first-stage-requires
     loop-holds
-    half-of-requires
-    add-half-with
-    (λ c κs. search needs)
-    add-half-with-2
-    (λ c κs. search needs)
+    lies-in-quarter-requires
+    stage-node-requires
     same-length
     returns
-    same-length-2
-    returns-2
+    cast-quarter-details
     quarter-details-requires
     first-detail-requires
     add-details-requires
-    mul-quarter-of
-    add-quarter-of
-    quarter-of-requires
+    quarter-stage-requires
     loop-less
     loop-again
-    same-length-3
-    returns-3)
+    stage-node-requires-2
+    same-length-2
+    returns-2)

@@ -2,9 +2,8 @@
 -- and the three details are whole numbers.
 --
 -- Main results
---   quarterH, quarterV, quarterD              the details of an edge in one quarter
---   h-in-quarter, v-in-quarter, d-in-quarter  its numerators are these times its steps
---   in-quarter                                so rounding keeps them
+--   in-quarter                                the details of an edge in one quarter
+--   quarter-signed                            those of its differences times a sign are those times that sign
 use mathlib.Core.Path.{_≡_, sym, _∙_, ap, ap₂}
 use mathlib.Core.List.{[], _∷_}
 use Prim.Native.Nat.{ℕ, zero, suc, _<_}
@@ -26,33 +25,36 @@ use Rattle.edge.specs.Lemmas.Records.{details-eq}
 use Rattle.edge.specs.Laws.StepCount.{rounded-whole}
 use Rattle.edge.specs.Lemmas.Ends.{beyond-start, x-end, y-end, past-scale, near-scale}
 use Rattle.edge.specs.Integrals.{along, hNum, vNum, dNum}
+use Rattle.edge.specs.declared.Details.{Details}
 use Rattle.edge.specs.Rounded.{details}
 use Rattle.edge.specs.Lemmas.Runs.{piece, LinearOn, upto, upto-zero, upto-all, linear-run}
 use Rattle.edge.specs.Lemmas.OneDirection.{ClosedRun, OneHalf, before, behind, past-linear, near-linear}
 use Rattle.edge.specs.Laws.WholeTile.{stays-between}
-use Rattle.edge.specs.Code.{fromSides}
+use Rattle.edge.specs.Laws.Cells.{HalfView, first, second, half-view, half-below}
+use Rattle.integers.specs.Magnitude.{abs}
+use Rattle.edge.specs.Code.{beforeMiddle, halfWith, turned, quarterDetails}
 
 -- from a point in half i to the side of that half; u: how far it lies past the middle
 abbrev fromSide : ℕ → ℤ → ℤ → ℤ
 fromSide zero half u = half +ℤ u
 fromSide (suc i) half u = half -ℤ u
 
-abbrev pub turned : ℕ → ℤ → ℤ
-turned zero z = z
-turned (suc j) z = negℤ z
+-- from both, added up
+abbrev fromSides : ℕ → ℤ → ℤ → ℤ
+fromSides zero w u = w +ℤ u
+fromSides (suc i) w u = w -ℤ u
 
 -- how far p and q lie past the middle, added up
-abbrev pub pastMiddle : ℤ → ℤ → ℤ → ℤ
+abbrev pastMiddle : ℤ → ℤ → ℤ → ℤ
 pastMiddle middle p q = (p -ℤ middle) +ℤ (q -ℤ middle)
 
-abbrev pub quarterH : Edge → Cell → ℤ → ℕ → ℤ
+abbrev quarterH : Edge → Cell → ℤ → ℕ → ℤ
 quarterH e c half i = fromSides i (c .width) (pastMiddle (c .left +ℤ half) (e .x0) (e .x1)) *ℤ dy e
 
-abbrev pub quarterV : Edge → Cell → ℤ → ℕ → ℤ
+abbrev quarterV : Edge → Cell → ℤ → ℕ → ℤ
 quarterV e c half j = negℤ (fromSides j (c .width) (pastMiddle (c .top +ℤ half) (e .y0) (e .y1)) *ℤ dx e)
 
--- "as h, with the sign turned in the lower half"
-abbrev pub quarterD : Edge → Cell → ℤ → ℕ → ℕ → ℤ
+abbrev quarterD : Edge → Cell → ℤ → ℕ → ℕ → ℤ
 quarterD e c half i j = turned j (quarterH e c half i)
 
 -- ---- half i of a range from `side` on
@@ -169,13 +171,13 @@ module _ (e : Edge) (c : Cell) {half : ℤ} {i j : ℕ} (m : c .width ≡ half +
   sides zero u v = comb (c .width ∷ half ∷ u ∷ v ∷ []) (sym m) (search read depth 40) tt
   sides (suc i) u v = comb (c .width ∷ half ∷ u ∷ v ∷ []) (sym m) (search read depth 40) tt
 
-  pub h-in-quarter : hNum e c ≡ quarterH e c half i *ℤ pos (steps e)
+  h-in-quarter : hNum e c ≡ quarterH e c half i *ℤ pos (steps e)
   unfolding hNum
   h-in-quarter =
       one-piece (x-unbent .tented) (y-unbent .whole) ∙ ring (pos (ax e) ∷ pos (ay e) ∷ e .y0 ∷ e .y1 ∷ c .top ∷ tx0 ∷ tx1 ∷ []) (search read depth 40) tt
       ∙ ap (λ z. z *ℤ dy e *ℤ pos (steps e)) (sides i (e .x0 -ℤ (c .left +ℤ half)) (e .x1 -ℤ (c .left +ℤ half)))
 
-  pub v-in-quarter : vNum e c ≡ quarterV e c half j *ℤ pos (steps e)
+  v-in-quarter : vNum e c ≡ quarterV e c half j *ℤ pos (steps e)
   unfolding vNum
   v-in-quarter =
       ap negℤ (one-piece (y-unbent .tented) (x-unbent .whole))
@@ -188,15 +190,58 @@ module _ (e : Edge) (c : Cell) {half : ℤ} {i j : ℕ} (m : c .width ≡ half +
   moves zero t = ring (t ∷ half ∷ e .y0 ∷ e .y1 ∷ c .top ∷ []) (search read depth 40) tt
   moves (suc j) t = ring (t ∷ half ∷ e .y0 ∷ e .y1 ∷ c .top ∷ []) (search read depth 40) tt
 
-  pub d-in-quarter : dNum e c ≡ quarterD e c half i j *ℤ pos (steps e)
+  d-in-quarter : dNum e c ≡ quarterD e c half i j *ℤ pos (steps e)
   unfolding dNum
   d-in-quarter =
       one-piece (x-unbent .tented) (y-unbent .tented) ∙ ring (pos (ax e) ∷ pos (ay e) ∷ tx0 ∷ tx1 ∷ ty0 ∷ ty1 ∷ []) (search read depth 40) tt
       ∙ ap (λ z. z *ℤ pos (steps e)) (moves j (tx0 +ℤ tx1) ∙ ap (λ z. turned j (z *ℤ dy e)) (sides i (e .x0 -ℤ (c .left +ℤ half)) (e .x1 -ℤ (c .left +ℤ half))))
 
   -- ---- rounding
-  pub in-quarter : details e c ≡ record { h = quarterH e c half i; v = quarterV e c half j; d = quarterD e c half i j }
+  whole : details e c ≡ record { h = quarterH e c half i; v = quarterV e c half j; d = quarterD e c half i j }
   unfolding details
-  in-quarter =
+  whole =
       details-eq (rounded-whole e (quarterH e c half i) h-in-quarter) (rounded-whole e (quarterV e c half j) v-in-quarter)
       (rounded-whole e (quarterD e c half i j) d-in-quarter)
+
+-- ---- by how far the ends lie before the middles
+module _ (side w half p q : ℤ) (m : w ≡ half +ℤ half) where
+  abbrev u : ℤ
+  u = beforeMiddle side w p q
+
+  sides-is : fromSides (halfWith u) w (pastMiddle (side +ℤ half) p q) ≡ w -ℤ abs u
+  sides-is = go (half-view u)
+    where
+      go : HalfView u → fromSides (halfWith u) w (pastMiddle (side +ℤ half) p q) ≡ w -ℤ abs u
+      go (first e f g) =
+          ap (λ i. fromSides i w (pastMiddle (side +ℤ half) p q)) e
+          ∙ comb (side ∷ w ∷ half ∷ p ∷ q ∷ abs u ∷ []) (m ⊕ f) (search read depth 40) tt
+      go (second e f g) =
+          ap (λ i. fromSides i w (pastMiddle (side +ℤ half) p q)) e
+          ∙ comb (side ∷ w ∷ half ∷ p ∷ q ∷ abs u ∷ []) (sym m ⊕ f) (search read depth 40) tt
+
+abbrev leftOf : Edge → Cell → ℤ
+leftOf e c = beforeMiddle (c .left) (c .width) (e .x0) (e .x1)
+
+abbrev above : Edge → Cell → ℤ
+above e c = beforeMiddle (c .top) (c .width) (e .y0) (e .y1)
+
+pub in-quarter : (e : Edge) (c : Cell) {half : ℤ} → c .width ≡ half +ℤ half → pos 0 ≤ℤ half
+    → OnCell (quarter c half (halfWith (leftOf e c)) (halfWith (above e c))) e
+    → details e c ≡ quarterDetails (c .width) (leftOf e c) (above e c) (dx e) (dy e)
+in-quarter e c {half} m h o =
+    let x = ap (λ z. z *ℤ dy e) (sides-is (c .left) (c .width) half (e .x0) (e .x1) m) in
+    let y = ap (λ z. negℤ (z *ℤ dx e)) (sides-is (c .top) (c .width) half (e .y0) (e .y1) m) in
+    whole e c m h (half-below (leftOf e c)) (half-below (above e c)) o ∙ details-eq x y (ap (turned (halfWith (above e c))) x)
+
+-- ---- with a sign
+abbrev pub signed : ℤ → Details → Details
+signed s w = record { h = s *ℤ w .h; v = s *ℤ w .v; d = s *ℤ w .d }
+
+turned-signed : (j : ℕ) (s t z : ℤ) → turned j (t *ℤ (s *ℤ z)) ≡ s *ℤ turned j (t *ℤ z)
+turned-signed zero s t z = ring (s ∷ t ∷ z ∷ []) (search read depth 40) tt
+turned-signed (suc j) s t z = ring (s ∷ t ∷ z ∷ []) (search read depth 40) tt
+
+pub quarter-signed : (w u v s x y : ℤ) → quarterDetails w u v (s *ℤ x) (s *ℤ y) ≡ signed s (quarterDetails w u v x y)
+quarter-signed w u v s x y =
+    details-eq (ring (w ∷ abs u ∷ s ∷ y ∷ []) (search read depth 40) tt) (ring (w ∷ abs v ∷ s ∷ x ∷ []) (search read depth 40) tt)
+    (turned-signed (halfWith v) s (w -ℤ abs u) y)
