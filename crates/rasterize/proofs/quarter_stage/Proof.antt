@@ -19,9 +19,6 @@ use Rattle.rasterize.specs.Laws.Stages.{stage-eq, stage-few}
 use Rattle.rasterize.proofs.quarter_stage.Statement.{statement}
 use Rattle.rasterize.proofs.quarter_stage.Tie as tie
 
-below : (u : ℤ) {r : ℕ} → r ≡ halfWith u → r < 2
-below u e = subst⁻¹ (λ n. n < 2) e (half-below u)
-
 told : {u : ℤ} {r : ℕ} → Within (pos extentLimit) u → r ≡ halfWith (back u) → r ≡ halfWith u
 told w e = e ∙ ap halfWith (back-is tt w)
 
@@ -61,13 +58,17 @@ mul-t5 : tie.Need-mul-t5
 mul-t5 c = let k = c .before .before .before .pre in record { fits = omega (arith, stage-few (k .x-below) (k .shallow)) }
 
 add-t7 : tie.Need-add-t7
-add-t7 c = let k = first c .pre in record { fits = omega (arith, stage-few (k .x-below) (k .shallow), below (back (p (first c) .left)) (c .half-with .ensures)) }
+add-t7 c =
+    let k = first c .pre in
+    record { fits = omega (arith, stage-few (k .x-below) (k .shallow), subst⁻¹ (λ n. n < 2) (c .half-with .ensures) (half-below _)) }
 
 mul-t8 : tie.Need-mul-t8
 mul-t8 c = let k = first (c .before) .pre in record { fits = omega (arith, stage-few (k .y-below) (k .shallow)) }
 
 add-t10 : tie.Need-add-t10
-add-t10 c = let k = first (second c) .pre in record { fits = omega (arith, stage-few (k .y-below) (k .shallow), below (back (p (first (second c)) .above)) (c .half-with2 .ensures)) }
+add-t10 c =
+    let k = first (second c) .pre in
+    record { fits = omega (arith, stage-few (k .y-below) (k .shallow), subst⁻¹ (λ n. n < 2) (c .half-with2 .ensures) (half-below _)) }
 
 before-half-requires : tie.Need-before-half-requires
 before-half-requires c κs = let s = first (second (c .before)) in asked s (s .pre .left)
@@ -82,7 +83,9 @@ returns c =
     let g = second h in
     let s = first g in
     let deeper : p s .level + 1 ≡ suc (p s .level) = omega arith in
-    stage-eq deeper (ap (λ n. 2 * p s .x + n) (told (s .pre .left) (g .half-with .ensures))) (ap (λ n. 2 * p s .y + n) (told (s .pre .above) (h .half-with2 .ensures))) refl
+    let column = told (s .pre .left) (g .half-with .ensures) in
+    let row = told (s .pre .above) (h .half-with2 .ensures) in
+    stage-eq deeper (omega (arith, column)) (omega (arith, row)) refl
     (answered s (s .pre .left) (b .before-half .ok) (b .before-half .ensures)) (answered s (s .pre .above) (c .before-half2 .ok) (c .before-half2 .ensures))
 
 pub quarter-stage-spec : {M : Type 1} → statement M
