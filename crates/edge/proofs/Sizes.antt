@@ -9,7 +9,7 @@
 use mathlib.Core.Path.{_≡_, _∙_, ap}
 use mathlib.Core.List.{[], _∷_}
 use Prim.Native.Nat.{_<_, _^_}
-use lib.IntN.{ℤ, pos, _+ℤ_, _-ℤ_}
+use lib.IntN.{ℤ, pos, _-ℤ_}
 use lib.Signed.{_≤ℤ_, mag}
 use Rattle.integers.specs.Order.{nonneg, positive, add-one-≤ℤ, ≤ℤ-mul}
 use Rattle.integers.specs.Linear.{le, eq, _&_, none!, linear, lin≤}

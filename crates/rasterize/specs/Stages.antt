@@ -5,7 +5,7 @@
 --   quarterStage p               the quarter that the edge lies in
 --   stageNode p                  the cell, with its square
 --   StageRoom p                  its numbers are small
-use Prim.Native.Nat.{ℕ, suc, _+_, _*_, _/_, _^_, _<_, _≤_}
+use Prim.Native.Nat.{suc, _+_, _*_, _/_, _^_, _<_, _≤_}
 use lib.IntN.{pos, natAbs, _*ℤ_}
 use Rattle.integers.specs.Units.{greatestDepth}
 use Rattle.integers.specs.Within.{Within}

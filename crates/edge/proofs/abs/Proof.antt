@@ -1,5 +1,5 @@
 -- z, or −z where that is not negative.
-use mathlib.Core.Path.{_≡_, _∙_, sym, ap}
+use mathlib.Core.Path.{_∙_, sym, ap}
 use mathlib.Core.List.{[], _∷_}
 use lib.IntN.{pos, _-ℤ_}
 use lib.Signed.{_<ℤ_, _≤ℤ_}

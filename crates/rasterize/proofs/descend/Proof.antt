@@ -1,6 +1,6 @@
 -- From cell to cell, as long as the edge lies in one quarter.
-use mathlib.Core.Path.{_≡_, refl, sym, _∙_, ap, ap₂, subst, subst⁻¹}
-use Prim.Native.Nat.{ℕ, suc, _+_, _*_, _-_, _<_}
+use mathlib.Core.Path.{_≡_, refl, _∙_, ap, ap₂, subst⁻¹}
+use Prim.Native.Nat.{suc, _*_, _-_, _<_}
 use native.Mathlib.Omega.{arith}
 use lib.IntN.{ℤ, pos, _-ℤ_, _*ℤ_}
 use lib.Signed.{_≤ℤ_}
@@ -8,7 +8,6 @@ use mir.Syntax.{w64}
 use mir.Val.{toZ}
 use mir.Facts.{toZ-ofZ, toZ-pos}
 use borrow.Author.Tests.{not-false}
-use Rattle.integers.specs.Units.{greatestDepth}
 use Rattle.integers.specs.Order.{nonneg, pos-≤ℤ}
 use Rattle.integers.specs.Magnitude.{abs}
 use Rattle.integers.specs.Within.{Within, within-le, within-self}

@@ -3,7 +3,7 @@ use mathlib.Core.Path.{_≡_, refl, sym, _∙_, ap}
 use mathlib.Core.List.{[], _∷_}
 use Prim.Native.Nat.{ℕ, _+_}
 use native.Mathlib.Omega.{arith}
-use lib.IntN.{ℤ, pos, natAbs, _+ℤ_, _-ℤ_}
+use lib.IntN.{ℤ, pos, _+ℤ_, _-ℤ_}
 use mir.Syntax.{w64}
 use mir.Val.{toZ}
 use mir.Facts.{toZ-pos}
@@ -16,10 +16,9 @@ use Rattle.integers.specs.Held.{Held, held-number, held-add, held-sub, held-fit
 use Rattle.edge.specs.declared.Cell.{Cell as Square}
 use Rattle.edge.specs.Room.{coordinateLimit}
 use Rattle.edge.specs.Code.{beforeMiddle}
-use Rattle.accuracy.specs.Tile.{cellWidth, tile}
+use Rattle.accuracy.specs.Tile.{cellWidth}
 use Rattle.accuracy.specs.Laws.Squares.{square-tile}
 use Rattle.accuracy.specs.Laws.EntryBounds.{tile-width-le}
-use Rattle.rasterize.specs.Nodes.{nodeAt}
 use Rattle.rasterize.specs.Stages.{stageAt}
 use Rattle.rasterize.specs.Laws.Stages.{stage-eq}
 use Rattle.rasterize.proofs.first_stage.Statement.{statement}

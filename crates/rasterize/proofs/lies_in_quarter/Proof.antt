@@ -1,9 +1,8 @@
 -- In one half both ways, or not in x.
-use mathlib.Core.Path.{_≡_, sym, _∙_, ap, ap₂, subst}
+use mathlib.Core.Path.{sym, _∙_, subst}
 use mathlib.Core.Bool.{Bool, true≢false}
 use lib.IntN.{ℤ, pos, _-ℤ_}
 use lib.Signed.{_≤ℤ_}
-use borrow.Author.Needs.{needs}
 use Rattle.integers.specs.Magnitude.{abs}
 use Rattle.integers.specs.Within.{Within}
 use Rattle.integers.specs.Bits.{back, back-is, within-back, fits-within}

@@ -1,13 +1,12 @@
 -- The square begins x widths from the left side, and y from the top.
-use mathlib.Core.Path.{_≡_, ap, ap₂, _∙_}
+use mathlib.Core.Path.{ap, ap₂, _∙_}
 use Prim.Native.Nat.{ℕ, _<_, _≤_, _*_, _^_}
 use native.Mathlib.Omega.{arith}
 use lib.IntN.{ℤ, pos, _*ℤ_}
 use mir.Syntax.{w64}
 use mir.Val.{toZ}
 use mir.Facts.{toZ-pos}
-use borrow.Author.Needs.{needs}
-use Rattle.integers.specs.Units.{greatestDepth, greatestSide}
+use Rattle.integers.specs.Units.{greatestSide}
 use Rattle.integers.specs.Order.{nonneg, pos-≤ℤ}
 use Rattle.integers.specs.Within.{within-le, within-self}
 use Rattle.integers.specs.Held.{Held, held-mul, held-fits, held-back}

@@ -1,5 +1,5 @@
 -- A tile begins at the origin.
-use mathlib.Core.Path.{_≡_, sym, _∙_, ap, ap₂}
+use mathlib.Core.Path.{sym, _∙_, ap}
 use lib.IntN.{pos}
 use native.Mathlib.Omega.{arith}
 use mir.Syntax.{w64}

@@ -11,16 +11,16 @@ use mathlib.Core.List.{List, [], _∷_}
 use Prim.Native.Nat.{ℕ, suc, _+_, _*_, _/_, _%_, _^_, _<_, _≤_}
 use native.Mathlib.Omega.{arith}
 use lib.Pow.{pow-mono}
-use lib.IntN.{ℤ, pos, natAbs, _+ℤ_, _*ℤ_}
+use lib.IntN.{ℤ, pos, _+ℤ_, _*ℤ_}
 use lib.Signed.{_≤ℤ_}
 use Rattle.integers.specs.Units.{greatestDepth, greatestSide}
 use Rattle.integers.specs.Order.{nonneg, ≤ℤ-mul}
-use Rattle.integers.specs.Linear.{le, eq, _&_, linear, lin≤}
+use Rattle.integers.specs.Linear.{le, _&_, linear, lin≤}
 use Rattle.integers.specs.Within.{Within, within-le, within-self, natAbs-of-within}
 use Rattle.edge.specs.declared.Edge.{Edge}
 use Rattle.edge.specs.Room.{coordinateLimit, extentLimit}
 use Rattle.edge.specs.Nested.{OnRange, OnCell}
-use Rattle.edge.specs.Code.{beforeMiddle, halfWith, beforeHalf}
+use Rattle.edge.specs.Code.{beforeMiddle, halfWith}
 use Rattle.edge.specs.Laws.Cells.{half-below, before-half}
 use Rattle.rasterize.specs.declared.Node.{Node}
 use Rattle.rasterize.specs.declared.Stage.{Stage}
