@@ -1,8 +1,8 @@
--- What the functions ask of their callers.
+-- What the functions ask of their callers, and what the way down promises.
 --
 -- Definitions
 --   sumLimit                     how large an entry may become
---   visits left                  how many cells a cell and `left` levels from it on have: so often an edge may add to an entry
+--   visits left                  how many cells there are in `left` levels, beginning with one cell: an edge adds to an entry at most so often
 --   Spare t n                    there is room for n more details in every entry
 --   SmallDetails w               three details that an edge may have
 --   OnSheet e left s              an edge and a square on one sheet, the square wide enough for `left` levels
@@ -10,7 +10,7 @@
 --   Splits c                     a cell that has quarters
 --   Fits t depth n               a table of a tile of side 2^depth, with room for n more edges
 --   squareOf w                   a square at the origin
---   Descent e sign depth t c u   table t has become u, and what cell c and those below it are still to add makes up for the rest
+--   Descent e sign depth t c u   table t has become u: adding to u what the edge adds in cell c and below it gives what adding the whole edge to t would
 use mathlib.Core.Path.{_≡_}
 use mathlib.Core.List.{List}
 use Prim.Native.Nat.{ℕ, zero, suc, _+_, _*_, _^_, _<_, _≤_}

@@ -388,7 +388,7 @@ fn stage_node(p: Stage) -> Node
 
 // Adds an edge on the tile to each cell in one quarter of which it lies, from the whole tile down, or takes it out where the sign is -1. Its details there
 // are whole numbers, and no part of it lies inside the other three quarters. Answers the cell at which this ends: the smallest in which the edge lies, or
-// one that has no quarters.
+// one that has no quarters. (That the way goes so far is to be seen in the loop; the contract says what has been added.)
 fn descend(table: &mut [i64], e: Edge, sign: i64, depth: usize) -> Node
     requires { ⌜ Ready (now table) e depth (nodeAt depth 0 0 0) × OnCell (tileSquare depth) e × Within (pos 1) sign ⌝ }
     ensures { λ c. ⌜ Descent e sign depth (now (table .entry)) c (now (table .exit)) ⌝ }
