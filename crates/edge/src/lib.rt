@@ -7,7 +7,7 @@
 // The walk. In N = |dx| × |dy| equal steps, |dy| × x and |dx| × y move by at most 1 a step. So every side and middle of a cell is crossed at a whole
 // step t (a step here is one of these; 01's step, 1/256 pixel, is what coordinates count), found by one product and no division, and each value is a
 // whole number over N. A level, upright or 45-degree edge is walked in unit steps: its values are whole, and nothing is divided by N. The walk is worked
-// out once for an edge and passed by value from cell to cell.
+// out once for an edge and passed by value from cell to cell; of a slanted one crate `slanted` passes on a few numbers in its place.
 //
 // The cuts. The steps inside a cell are consecutive, from the later of two entries to the earlier of two exits. The crossings of the two middles cut
 // them into at most three pieces. On a piece each tent rises or falls steadily, as x and y do,
