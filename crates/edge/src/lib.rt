@@ -465,7 +465,7 @@ pub fn half_of(width: i64) -> i64
     requires { ⌜ Even width ⌝ }
     ensures { λ h. ⌜ (width ≡ h +ℤ h) × (pos 0 ≤ℤ h) ⌝ }
 {
-    width / 2
+    width >> 1
 }
 
 // Where some step lies inside: the sum over the pieces, rounded.

@@ -4,14 +4,15 @@
 --   truncated                n is q d + r, where q and r have n's sign, or are 0, and r is short of d either way
 --   truncated-neg            the same on both sides of zero
 --   quot-fits, rem-fits      q and r fit where n does
-use mathlib.Core.Path.{_≡_, ap}
+--   shift-quot               a shift to the right divides too, what is not negative
+use mathlib.Core.Path.{_≡_, refl, ap}
 use mathlib.Core.List.{[], _∷_}
 use Prim.Native.Nat.{ℕ, zero, suc, _/_, _%_, _<_, _≤_}
 use native.Mathlib.Omega.{arith}
 use native.Mathlib.Nat.{le-trans, lt-of-le-of-lt, div-add-mod, mod-lt, mod-le, div-le-self}
 use lib.Dec.{ltb→lt}
 use lib.IntN.{ℤ, pos, negsuc, negℤ, _+ℤ_, _*ℤ_}
-use lib.Signed.{mag, quotZ, remZ, mag-rem, _≤ℤ_, _<ℤ_}
+use lib.Signed.{mag, quotZ, remZ, shrZ, mag-rem, _≤ℤ_, _<ℤ_}
 use mir.Syntax.{Width}
 use mir.Val.{SFits}
 use Rattle.integers.specs.Ring.{read, comb, _⊗_}
@@ -69,3 +70,8 @@ quot-fits n d f h = fits-smaller (quotZ n d) n (mag-quot n d h) f
 
 pub rem-fits : {w : Width} (n d : ℤ) → SFits w n → SFits w (remZ n d)
 rem-fits n d f = fits-smaller (remZ n d) n (mag-rem n d) f
+
+-- ---- by a shift
+pub shift-quot : (z : ℤ) (d : ℕ) → pos 0 ≤ℤ z → shrZ z d ≡ quotZ z (pos d)
+shift-quot (pos a) d h = refl
+shift-quot (negsuc a) d h = absurd (h .le)

@@ -24,7 +24,7 @@ ghost use Rattle.integers.specs.MinMax.{min, max};
 ghost use Rattle.edge.specs.Cuts.{span as spanOf, toSide};
 ghost use Rattle.edge.specs.Room.{coordinateLimit, extentLimit, crossingLimit, Even, Room};
 ghost use Rattle.edge.specs.WalkOf.{IsWalk};
-ghost use Rattle.slanted.specs.Under.{under, turned as turnedSum, underLimit, sumLimit, farLimit, Arch, Turns};
+ghost use Rattle.slanted.specs.Under.{signedSquare, under, turned as turnedSum, underLimit, sumLimit, farLimit, Arch, Turns};
 ghost use Rattle.slanted.specs.Pieces.{pieceOf, roundedDetails, signedBy, Sound, Ranged};
 ghost use Rattle.slanted.specs.Parts.{since as sinceOf, until as untilOf, shifted as shiftedBy, IsPart};
 use edge::Axis;
@@ -80,20 +80,20 @@ pub fn piece_of(w: Walk, c: Cell, half: i64, s: Span) -> Piece
 
 // ---- the details
 
+// z², with the sign of z. Which side of a middle a step lies on cannot be foreseen, so there is no branch on it.
+fn signed_square(z: i64) -> i64
+    requires { ⌜ Within (pos widthTimesExtentLimit) z ⌝ }
+    ensures { λ r. ⌜ r ≡ signedSquare z ⌝ }
+{
+    z * integers::magnitude(z) as i64
+}
+
 // Twice the sum of p - |t - m| over the steps from u to v, each by the mean of its two ends.
 fn under_tent(p: i64, m: i64, u: i64, v: i64) -> i64
     requires { ⌜ Arch p m u v ⌝ }
     ensures { λ r. ⌜ r ≡ under p m u v ⌝ }
 {
-    let a = u - m;
-    let b = v - m;
-    if b <= 0 {
-        (b - a) * (2 * p + (a + b))
-    } else if 0 <= a {
-        (b - a) * (2 * p - (a + b))
-    } else {
-        2 * p * (b - a) - (a * a + b * b)
-    }
+    2 * p * (v - u) - (signed_square(v - m) - signed_square(u - m))
 }
 
 // m / n to the nearest whole number, a half going up. m is not negative.
@@ -101,7 +101,7 @@ fn nearest(m: i64, n: i64) -> i64
     requires { ⌜ (pos 0 ≤ℤ m) × (m ≤ℤ pos sumLimit) × (pos 0 <ℤ n) × (n ≤ℤ pos crossingLimit) ⌝ }
     ensures { λ r. ⌜ r ≡ roundHalfAway m (natAbs n) ⌝ }
 {
-    (m + n / 2) / n
+    (m + (n >> 1)) / n
 }
 
 // The sign of m, 1 for 0.

@@ -3,9 +3,8 @@ use mathlib.Core.Path.{_≡_, _∙_, ap, ap₂, subst⁻¹}
 use mathlib.Core.List.{[], _∷_}
 use mathlib.Core.Logic.{_⊎_, inl, inr}
 use Prim.Native.Nat.{_+_}
-use lib.Dec.{lit<}
 use lib.IntN.{ℤ, pos, natAbs, _+ℤ_, _-ℤ_, _*ℤ_}
-use lib.Signed.{quotZ, remZ, _≤ℤ_, _<ℤ_, ltZ-yes}
+use lib.Signed.{quotZ, remZ, shrZ, _≤ℤ_, _<ℤ_, ltZ-yes}
 use mir.Syntax.{w64}
 use mir.Val.{SFits}
 use mir.Facts.{toZ-ofZ}
@@ -14,7 +13,7 @@ use Rattle.integers.specs.Linear.{le, lt, eq, _&_, linear, lin≤, lin<, lin⊥
 use Rattle.integers.specs.Machine.{known, bits-pos}
 use Rattle.integers.specs.Rounding.{roundHalfAway}
 use Rattle.integers.specs.RoundHalfAway.{roundHalfAway-of-bounds′}
-use Rattle.integers.specs.Division.{truncated, quot-fits}
+use Rattle.integers.specs.Division.{truncated, quot-fits, shift-quot}
 use Rattle.integers.specs.Bits.{back, fits-within}
 use Rattle.integers.specs.Held.{Held, held-fits, held-back}
 use Rattle.integers.specs.Within.{Within, within-le, within-self, within-add}
@@ -71,13 +70,13 @@ module _ (m n : ℤ) (h : pos 0 ≤ℤ m) (k : pos 0 <ℤ n) where
 
 -- ---- as the machine has it
 module _ (s : tie.Start) where
-  half-fits : SFits w64 (quotZ (back (s .args .n)) (pos 2))
-  half-fits = subst⁻¹ (λ x. SFits w64 (quotZ x (pos 2))) (toZ-ofZ (s .fits .n)) (quot-fits (s .args .n) (pos 2) (s .fits .n) (ltZ-yes tt))
+  half-is : back (shrZ (back (s .args .n)) 2) ≡ quotZ (s .args .n) (pos 2)
+  half-is =
+      let n = s .args .n in
+      let k = shift-quot n 2 (≤ℤ-of-<ℤ (s .pre .2)) in
+      ap (λ x. back (shrZ x 2)) (toZ-ofZ (s .fits .n)) ∙ known (subst⁻¹ (SFits w64) k (quot-fits n (pos 2) (s .fits .n) (ltZ-yes tt))) k
 
-  half-is : back (quotZ (back (s .args .n)) (pos 2)) ≡ quotZ (s .args .n) (pos 2)
-  half-is = known half-fits (ap (λ x. quotZ x (pos 2)) (toZ-ofZ (s .fits .n)))
-
-  sum-is : back (s .args .m) +ℤ back (quotZ (back (s .args .n)) (pos 2)) ≡ s .args .m +ℤ quotZ (s .args .n) (pos 2)
+  sum-is : back (s .args .m) +ℤ back (shrZ (back (s .args .n)) 2) ≡ s .args .m +ℤ quotZ (s .args .n) (pos 2)
   sum-is = ap₂ _+ℤ_ (toZ-ofZ (s .fits .m)) half-is
 
   half-high : quotZ (s .args .n) (pos 2) ≤ℤ pos crossingLimit
@@ -91,20 +90,19 @@ module _ (s : tie.Start) where
   sum-within = within-add (within-le (s .pre .1) (within-self (s .pre .0)))
       (within-le half-high (within-self (half≥0 (s .args .m) (s .args .n) (s .pre .0) (s .pre .2))))
 
-  sum-held : Held (sumLimit + crossingLimit) (back (s .args .m) +ℤ back (quotZ (back (s .args .n)) (pos 2))) (s .args .m +ℤ quotZ (s .args .n) (pos 2))
+  sum-held : Held (sumLimit + crossingLimit) (back (s .args .m) +ℤ back (shrZ (back (s .args .n)) 2)) (s .args .m +ℤ quotZ (s .args .n) (pos 2))
   sum-held = record { is = sum-is; within = sum-within }
 
-  quotient-is : quotZ (back (back (s .args .m) +ℤ back (quotZ (back (s .args .n)) (pos 2)))) (back (s .args .n)) ≡ quotZ (s .args .m +ℤ quotZ (s .args .n) (pos 2)) (s .args .n)
+  quotient-is : quotZ (back (back (s .args .m) +ℤ back (shrZ (back (s .args .n)) 2))) (back (s .args .n)) ≡ quotZ (s .args .m +ℤ quotZ (s .args .n) (pos 2)) (s .args .n)
   quotient-is = ap₂ quotZ (held-back tt sum-held .is) (toZ-ofZ (s .fits .n))
 
-  quotient-fits : SFits w64 (quotZ (back (back (s .args .m) +ℤ back (quotZ (back (s .args .n)) (pos 2)))) (back (s .args .n)))
+  quotient-fits : SFits w64 (quotZ (back (back (s .args .m) +ℤ back (shrZ (back (s .args .n)) 2))) (back (s .args .n)))
   quotient-fits = subst⁻¹ (SFits w64) quotient-is (quot-fits (s .args .m +ℤ quotZ (s .args .n) (pos 2)) (s .args .n) (fits-within tt sum-within) (s .pre .2))
 
 pub nearest-spec : {M : Type 1} → statement M
 nearest-spec =
     tie.close
     (tie.spec
-    (λ s. (lit< tt, half-fits s))
     (λ s. held-fits tt (sum-held s))
     (λ s. (bits-pos w64 {z = s .args .n} (s .pre .2), quotient-fits s))
     (λ s. known (quotient-fits s) (quotient-is s ∙ is-nearest (s .args .m) (s .args .n) (s .pre .0) (s .pre .2))))
