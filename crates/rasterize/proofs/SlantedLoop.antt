@@ -16,7 +16,6 @@ use lib.ListN.{length}
 use lib.IntN.{ℤ, pos, negsuc, _+ℤ_, _*ℤ_}
 use lib.Signed.{_≤ℤ_, _<ℤ_}
 use Rattle.integers.specs.Ring.{read, ring}
-use Rattle.integers.specs.Within.{Within}
 use Rattle.integers.specs.RangeSum.{Σ<, Σ-zero, Σ-suc}
 use Rattle.edge.specs.declared.Cell.{Cell as Square}
 use Rattle.edge.specs.declared.Details.{Details}
@@ -57,47 +56,47 @@ way-order l = record { below = way-below l; whole = λ f. four (λ q. f (quarter
 
 -- ---- the table on the way
 -- `left` is the number of levels below the cell, `entry` the table when the cell has added its own details
-pub record SlantedLoop (sign : ℤ) (l : Slope) (p : Spot) (k : Piece) (left : ℕ) (entry table : List ℤ) (q : ℕ) : Type 0 where
-  pub sums : {w : Walk} {s : Square} → Slants w s l k → OnSheet (w .edge) (suc left) s → QuarterLoop (quarterOnWay l) (w .edge) sign (nodeOn p s) left entry table q
+pub record SlantedLoop (l : Slope) (p : Spot) (k : Piece) (left : ℕ) (entry table : List ℤ) (q : ℕ) : Type 0 where
+  pub sums : {w : Walk} {s : Square} → Slants w s l k → OnSheet (w .edge) (suc left) s → QuarterLoop (quarterOnWay l) (w .edge) (nodeOn p s) left entry table q
 
-pub record SlantedOwn (sign : ℤ) (l : Slope) (p : Spot) (k : Piece) (left : ℕ) (before entry : List ℤ) : Type 0 where
-  pub own : {w : Walk} {s : Square} → Slants w s l k → OnSheet (w .edge) (suc left) s → OwnAdded (w .edge) sign (nodeOn p s) before entry
+pub record SlantedOwn (l : Slope) (p : Spot) (k : Piece) (left : ℕ) (before entry : List ℤ) : Type 0 where
+  pub own : {w : Walk} {s : Square} → Slants w s l k → OnSheet (w .edge) (suc left) s → OwnAdded (w .edge) (nodeOn p s) before entry
 
-module _ {sign : ℤ} {l : Slope} {p : Spot} {k : Piece} where
+module _ {l : Slope} {p : Spot} {k : Piece} where
   pub slanted-own : {left : ℕ} {before entry : List ℤ} {w : Details} {first : ℕ} → k .first <ℤ k .last → w ≡ roundedDetails l k → first ≡ firstDetail (nodeOn p (record { left = pos 0; top = pos 0; width = pos 0 }))
-      → entry ≡ added before (λ i. sign *ℤ ownPart w first i) → SlantedOwn sign l p k left before entry
+      → entry ≡ added before (ownPart w first) → SlantedOwn l p k left before entry
   slanted-own i d f e = record { own = λ h o. own-added (d ∙ slants-details h o i) f e }
 
-  pub slanted-start : (left : ℕ) (entry : List ℤ) → SlantedLoop sign l p k left entry entry 0
+  pub slanted-start : (left : ℕ) (entry : List ℤ) → SlantedLoop l p k left entry entry 0
   slanted-start left entry = record { sums = λ h o. quarters-start (quarterOnWay l) left entry }
 
-  module _ {left : ℕ} {before entry : List ℤ} (own : SlantedOwn sign l p k left before entry) where
-    pub slanted-end : {table : List ℤ} {q : ℕ} → quarters ≤ q → SlantedLoop sign l p k left entry table q → SlantedAdds before table sign l p k (suc left)
+  module _ {left : ℕ} {before entry : List ℤ} (own : SlantedOwn l p k left before entry) where
+    pub slanted-end : {table : List ℤ} {q : ℕ} → quarters ≤ q → SlantedLoop l p k left entry table q → SlantedAdds before table l p k (suc left)
     slanted-end h g = record { adds = λ s o. quarters-end (own .own s o) (way-order l) h (g .sums s o) }
 
-    pub slanted-last : left ≡ 0 → SlantedAdds before entry sign l p k (suc left)
+    pub slanted-last : left ≡ 0 → SlantedAdds before entry l p k (suc left)
     slanted-last z = record { adds = λ s o. own-end (own .own s o) z }
 
 -- ---- with levels below
-module _ {sign : ℤ} {l : Slope} {p : Spot} {k : Piece} {left : ℕ} {entry table : List ℤ} {q : ℕ} (g : SlantedLoop sign l p k (suc left) entry table q) (h : q < quarters)
+module _ {l : Slope} {p : Spot} {k : Piece} {left : ℕ} {entry table : List ℤ} {q : ℕ} (g : SlantedLoop l p k (suc left) entry table q) (h : q < quarters)
     {r : Piece} (part : IsPart k q r) where
-  pub slanted-step : {after : List ℤ} → SlantedAdds table after sign l (quarterSpot p (quarterOnWay l q)) r (suc left) → SlantedLoop sign l p k (suc left) entry after (q + 1)
+  pub slanted-step : {after : List ℤ} → SlantedAdds table after l (quarterSpot p (quarterOnWay l q)) r (suc left) → SlantedLoop l p k (suc left) entry after (q + 1)
   slanted-step a = record {
     sums = λ s o. quarters-step (g .sums s o) h refl
         (a .adds (slants-quarter s o p q h part) (quarter-on-sheet (nodeOn p _) (quarterOnWay l q) (way-below l q h) o));
   }
 
-  pub slanted-skip : {after : List ℤ} → r .last ≤ℤ r .first → after ≡ table → SlantedLoop sign l p k (suc left) entry after (q + 1)
+  pub slanted-skip : {after : List ℤ} → r .last ≤ℤ r .first → after ≡ table → SlantedLoop l p k (suc left) entry after (q + 1)
   slanted-skip e t = record {
     sums = λ s o. quarters-skip o (way-order l) (g .sums s o) h refl (slants-outside (slants-quarter s o p q h part) e) t;
   }
 
-  module _ {before : List ℤ} (u : Within (pos 1) sign) (m : SlantedReady before l p k (suc (suc left))) (own : SlantedOwn sign l p k (suc left) before entry) where
+  module _ {before : List ℤ} (m : SlantedReady before l p k (suc (suc left))) (own : SlantedOwn l p k (suc left) before entry) where
     pub slanted-asks : r .first <ℤ r .last → SlantedReady table l (quarterSpot p (quarterOnWay l q)) r (suc left)
     slanted-asks i = record {
       walk = m .walk;
       square = quarterNode (nodeOn p (m .square)) (quarterOnWay l q) .square;
       slants = slants-quarter (m .slants) (m .ready .on-sheet) p q h part;
       inside = i;
-      ready = quarters-asks (m .ready) u (own .own (m .slants) (m .ready .on-sheet)) (way-order l) (g .sums (m .slants) (m .ready .on-sheet)) h refl;
+      ready = quarters-asks (m .ready) (own .own (m .slants) (m .ready .on-sheet)) (way-order l) (g .sums (m .slants) (m .ready .on-sheet)) h refl;
     }

@@ -18,6 +18,8 @@ pub mod SlantedCells
 -- the edges that a tile has in view, alone or on a sheet; and what such an edge adds
 pub mod EdgesInView
 pub mod EdgeAdded
+-- to take an edge out is to add the way back along it
+pub mod TurnedEdges
 -- the tables of several edges add up, and so does the room that they need
 pub mod Sums
 pub mod Fitting

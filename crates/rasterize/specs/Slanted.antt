@@ -9,11 +9,11 @@
 --   quarterOnWay l q                             the quarter that the walk is in: q % 2 is 0 before the middle of x is crossed and 1 after it, q / 2 likewise of y
 --   quarterSpot p q                              the place of quarter q of a cell
 --   SlantedReady t l p k left                    such a walk and such a square that the recursion is ready for, with `left` levels from the cell's on
---   SlantedAdds before after sign l p k left     what the walk's edge adds there has been added, for every such walk: `SlantedReady` says that there is one
+--   SlantedAdds before after l p k left          what the walk's edge adds there has been added, for every such walk: `SlantedReady` says that there is one
 use mathlib.Core.Path.{_≡_}
 use mathlib.Core.List.{List}
 use Prim.Native.Nat.{ℕ, suc, _+_, _*_, _/_, _%_}
-use lib.IntN.{ℤ, _*ℤ_}
+use lib.IntN.{ℤ}
 use lib.Signed.{_<ℤ_}
 use Rattle.edge.specs.declared.Cell.{Cell as Square}
 use Rattle.edge.specs.declared.Walk.{Walk}
@@ -71,6 +71,6 @@ pub record SlantedReady (t : List ℤ) (l : Slope) (p : Spot) (k : Piece) (left 
   pub inside : k .first <ℤ k .last
   pub ready : Ready t (walk .edge) left (nodeOn p square)
 
-pub record SlantedAdds (before after : List ℤ) (sign : ℤ) (l : Slope) (p : Spot) (k : Piece) (left : ℕ) : Type 0 where
+pub record SlantedAdds (before after : List ℤ) (l : Slope) (p : Spot) (k : Piece) (left : ℕ) : Type 0 where
   pub adds : {w : Walk} {s : Square} → Slants w s l k → OnSheet (w .edge) left s
-      → after ≡ added before (λ i. sign *ℤ contribution (w .edge) left (nodeOn p s) i)
+      → after ≡ added before (contribution (w .edge) left (nodeOn p s))

@@ -7,13 +7,16 @@
 --   partTable view depth e       what the edge adds to each entry
 --   viewTable view depth es      the sums over the edges
 --   InView view depth e          what is asked of an edge: as the tile has it, it lies on one sheet with the tile, and what it adds is small
+--   Seen, seenTable              the same of an edge that is as the tile has it, and what it adds
+--   turnedBy sign e              the edge, or the way back along it where the sign is negative
 use mathlib.Core.List.{List}
 use Prim.Native.Nat.{ℕ}
-use lib.IntN.{ℤ}
+use lib.IntN.{ℤ, pos, negsuc}
 use Rattle.integers.specs.ListSum.{total}
 use Rattle.edge.specs.declared.Edge.{Edge}
 use Rattle.edge.specs.Rounded.{rootTerm, roundedArea}
 use Rattle.edge.specs.Nested.{seenFrom}
+use Rattle.edge.specs.Laws.Reversal.{reverse}
 use Rattle.haar.specs.Table.{Coefficients}
 use Rattle.haar.specs.Plane.{dimensions}
 use Rattle.accuracy.specs.Tile.{tile}
@@ -45,3 +48,16 @@ viewTable view depth es = record {
 pub record InView (view : View) (depth : ℕ) (e : Edge) : Type 0 where
   pub on-sheet : OnSheet (seenBy view e) depth (nodeAt depth 0 0 0 .square)
   pub small : Small (rootPart view depth (seenBy view e)) depth (seenBy view e)
+
+-- ---- an edge that is as the tile has it
+pub record Seen (view : View) (depth : ℕ) (e : Edge) : Type 0 where
+  pub on-sheet : OnSheet e depth (nodeAt depth 0 0 0 .square)
+  pub small : Small (rootPart view depth e) depth e
+
+abbrev pub seenTable : View → ℕ → Edge → Coefficients dimensions
+seenTable view depth e = rootedTable (rootPart view depth e) depth e
+
+-- to take an edge out is to add the way back along it
+abbrev pub turnedBy : ℤ → Edge → Edge
+turnedBy (pos n) e = e
+turnedBy (negsuc n) e = reverse e

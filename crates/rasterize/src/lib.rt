@@ -9,7 +9,7 @@
 //       +-------+/------+        in every cell inside that one: none of them is visited.
 //       |       /       |
 //       |      /|       |        A cell's level and numbers say where its details stand in the table, its square says where it lies; a quarter's
-//       +-----/-+-------+        are worked out from its cell's. What is added is multiplied by a sign, 1 to add and -1 to take out again.
+//       +-----/-+-------+        are worked out from its cell's. To take an edge out again is to add the way back along it.
 //
 // A tile alone has the edges as they are. A tile of a sheet has them as they are seen from its corner, so that it begins at the origin too; some may lie
 // beyond it, and what an edge adds to the root is then its own part of the tile's area, rounded.
@@ -41,8 +41,7 @@ ghost use Rattle.rasterize.specs.Contribution.{ownPart, contribution};
 ghost use Rattle.rasterize.specs.Contour.{edgeOf};
 ghost use Rattle.rasterize.specs.Ready.{sumLimit, Spare, Ready, Splits, SmallDetails, squareOf, Descent, Fits};
 ghost use Rattle.rasterize.specs.Stages.{stageAt, quarterStage, stageNode, StageRoom};
-ghost use Rattle.rasterize.specs.Views.{seenBy, rootPart, partTable, viewTable, InView};
-ghost use Rattle.slanted.specs.Pieces.{Moving};
+ghost use Rattle.rasterize.specs.Views.{seenBy, rootPart, partTable, viewTable, InView, Seen, seenTable, turnedBy};
 ghost use Rattle.slanted.specs.Parts.{halfOn};
 ghost use Rattle.rasterize.specs.Slanted.{slope, piece, spot, quarterOnWay, quarterSpot, SlantedReady, SlantedAdds};
 use edge::Cell;
@@ -116,22 +115,22 @@ fn quarter_of(c: Node, q: usize) -> Node
     }
 }
 
-// Adds x, or takes it out where the sign is -1, at one entry.
-fn add_at(table: &mut [i64], i: usize, sign: i64, x: i64)
-    requires { ⌜ (i < length (now table)) × Within (pos sumLimit) (getD (now table) i (pos 0)) × Within (pos detailLimit) x × Within (pos 1) sign ⌝ }
-    ensures { λ _. ⌜ now (table .exit) ≡ set (now (table .entry)) i (getD (now (table .entry)) i (pos 0) +ℤ sign *ℤ x) ⌝ }
+// Adds x at one entry.
+fn add_at(table: &mut [i64], i: usize, x: i64)
+    requires { ⌜ (i < length (now table)) × Within (pos sumLimit) (getD (now table) i (pos 0)) × Within (pos detailLimit) x ⌝ }
+    ensures { λ _. ⌜ now (table .exit) ≡ set (now (table .entry)) i (getD (now (table .entry)) i (pos 0) +ℤ x) ⌝ }
 {
-    table[i] = table[i] + sign * x;
+    table[i] = table[i] + x;
 }
 
-// Adds the details w, or takes them out where the sign is -1, at the three entries from `first` on.
-fn add_details(table: &mut [i64], first: usize, sign: i64, w: Details)
-    requires { ⌜ first + 2 < length (now table) × Spare (now table) 1 × SmallDetails w × Within (pos 1) sign ⌝ }
-    ensures { λ _. ⌜ now (table .exit) ≡ added (now (table .entry)) (λ i. sign *ℤ ownPart w first i) ⌝ }
+// Adds the details w at the three entries from `first` on.
+fn add_details(table: &mut [i64], first: usize, w: Details)
+    requires { ⌜ first + 2 < length (now table) × Spare (now table) 1 × SmallDetails w ⌝ }
+    ensures { λ _. ⌜ now (table .exit) ≡ added (now (table .entry)) (ownPart w first) ⌝ }
 {
-    add_at(table, first, sign, w.h);
-    add_at(table, first + 1, sign, w.v);
-    add_at(table, first + 2, sign, w.d);
+    add_at(table, first, w.h);
+    add_at(table, first + 1, w.v);
+    add_at(table, first + 2, w.d);
 }
 
 // How wide a tile of side 2^depth is, in steps.
@@ -202,20 +201,20 @@ fn root_part(view: View, e: Edge, tile: Cell, depth: usize) -> i64
     }
 }
 
-// Adds the walk's edge to a cell, and to those of its quarters inside which some part of it lies, `left` levels in all; takes it out where the sign
-// is -1. `span` has the steps inside the cell.
-fn add_node(table: &mut [i64], walk: Walk, sign: i64, c: Node, span: Span, left: usize)
-    requires { ⌜ (1 ≤ left) × Ready (now table) (walk .edge) left c × IsWalk walk × (span ≡ spanOf (walk .x) (walk .y) (c .square) (walk .steps)) × Within (pos 1) sign ⌝ }
-    ensures { λ _. ⌜ now (table .exit) ≡ added (now (table .entry)) (λ i. sign *ℤ contribution (walk .edge) left c i) ⌝ }
+// Adds the walk's edge to a cell, and to those of its quarters inside which some part of it lies, `left` levels in all. `span` has the steps inside the
+// cell.
+fn add_node(table: &mut [i64], walk: Walk, c: Node, span: Span, left: usize)
+    requires { ⌜ (1 ≤ left) × Ready (now table) (walk .edge) left c × IsWalk walk × (span ≡ spanOf (walk .x) (walk .y) (c .square) (walk .steps)) ⌝ }
+    ensures { λ _. ⌜ now (table .exit) ≡ added (now (table .entry)) (contribution (walk .edge) left c) ⌝ }
 {
     let w = edge::details_over(walk, c.square, span);
-    add_details(table, haar::first_detail(c.level, c.x, c.y), sign, w);
+    add_details(table, haar::first_detail(c.level, c.x, c.y), w);
     if left > 1 {
         for q in 0..QUARTERS {
             let quarter = quarter_of(c, q);
             let inside = edge::span_in(walk, quarter.square);
             if inside.first < inside.last {
-                add_node(table, walk, sign, quarter, inside, left - 1);
+                add_node(table, walk, quarter, inside, left - 1);
             }
         }
     }
@@ -241,15 +240,13 @@ fn quarter_on(p: Spot, l: Slope, q: usize) -> Spot
     }
 }
 
-// Adds a slanted walk's edge to a cell with some step inside, and to those of its quarters inside which some part of it lies, `left` levels in all; takes it
-// out where the sign is -1. The walk and the cell are known by the numbers of a slope, a spot and a piece: these are handed on one by one, since the
-// compiler hands a struct on through memory.
+// Adds a slanted walk's edge to a cell with some step inside, and to those of its quarters inside which some part of it lies, `left` levels in all. The walk
+// and the cell are known by the numbers of a slope, a spot and a piece: these are handed on one by one, since the compiler hands a struct on through memory.
 fn add_slanted(
     table: &mut [i64],
     divisor: i64,
     sx: i64,
     sy: i64,
-    sign: i64,
     level: usize,
     x: usize,
     y: usize,
@@ -261,8 +258,8 @@ fn add_slanted(
     hy: i64,
     left: usize,
 )
-    requires { ⌜ (1 ≤ left) × SlantedReady (now table) (slope divisor sx sy) (spot level x y) (piece first last mx my hx hy) left × Within (pos 1) sign ⌝ }
-    ensures { λ _. ⌜ SlantedAdds (now (table .entry)) (now (table .exit)) sign (slope divisor sx sy) (spot level x y) (piece first last mx my hx hy) left ⌝ }
+    requires { ⌜ (1 ≤ left) × SlantedReady (now table) (slope divisor sx sy) (spot level x y) (piece first last mx my hx hy) left ⌝ }
+    ensures { λ _. ⌜ SlantedAdds (now (table .entry)) (now (table .exit)) (slope divisor sx sy) (spot level x y) (piece first last mx my hx hy) left ⌝ }
 {
     let l = Slope {
         divisor: divisor,
@@ -278,7 +275,7 @@ fn add_slanted(
         half_y: hy,
     };
     let w = slanted::details_of(l, k);
-    add_details(table, haar::first_detail(level, x, y), sign, w);
+    add_details(table, haar::first_detail(level, x, y), w);
     if 1 < left {
         let p = Spot {
             level: level,
@@ -294,7 +291,6 @@ fn add_slanted(
                     divisor,
                     sx,
                     sy,
-                    sign,
                     n.level,
                     n.x,
                     n.y,
@@ -386,55 +382,33 @@ fn stage_node(p: Stage) -> Node
     }
 }
 
-// Adds an edge on the tile to each cell in one quarter of which it lies, from the whole tile down, or takes it out where the sign is -1. Its details there
-// are whole numbers, and no part of it lies inside the other three quarters. Answers the cell at which this ends: the smallest in which the edge lies, or
-// one that has no quarters. (That the way goes so far is to be seen in the loop; the contract says what has been added.)
-fn descend(table: &mut [i64], e: Edge, sign: i64, depth: usize) -> Node
-    requires { ⌜ Ready (now table) e depth (nodeAt depth 0 0 0) × OnCell (tileSquare depth) e × Within (pos 1) sign ⌝ }
-    ensures { λ c. ⌜ Descent e sign depth (now (table .entry)) c (now (table .exit)) ⌝ }
+// Adds an edge on the tile to each cell in one quarter of which it lies, from the whole tile down. Its details there are whole numbers, and no part of it
+// lies inside the other three quarters. Answers the cell at which this ends: the smallest in which the edge lies, or one that has no quarters. (That the
+// way goes so far is to be seen in the loop; the contract says what has been added.)
+fn descend(table: &mut [i64], e: Edge, depth: usize) -> Node
+    requires { ⌜ Ready (now table) e depth (nodeAt depth 0 0 0) × OnCell (tileSquare depth) e ⌝ }
+    ensures { λ c. ⌜ Descent e depth (now (table .entry)) c (now (table .exit)) ⌝ }
 {
-    // the sign is in the differences, and so in the details
-    let across = sign * (e.x1 - e.x0);
-    let down = sign * (e.y1 - e.y0);
+    let across = e.x1 - e.x0;
+    let down = e.y1 - e.y0;
     let mut p = first_stage(e, depth);
     while p.level < depth {
         if !lies_in_quarter(p, e) {
             return stage_node(p);
         }
         let w = edge::quarter_details(p.width as i64, p.left, p.above, across, down);
-        add_details(table, haar::first_detail(p.level, p.x, p.y), 1, w);
+        add_details(table, haar::first_detail(p.level, p.x, p.y), w);
         p = quarter_stage(p);
     }
     stage_node(p)
 }
 
-// The same of any edge: for one that leaves the tile the way ends at the tile.
-fn descend_on(table: &mut [i64], e: Edge, sign: i64, depth: usize) -> Node
-    requires { ⌜ Ready (now table) e depth (nodeAt depth 0 0 0) × Measured e × Within (pos 1) sign ⌝ }
-    ensures { λ c. ⌜ Descent e sign depth (now (table .entry)) c (now (table .exit)) ⌝ }
+// Adds a walk's edge, of which some part lies inside a cell, to the cell and to those below it, `left` levels in all.
+fn add_inside(table: &mut [i64], walk: Walk, c: Node, span: Span, left: usize)
+    requires { ⌜ (1 ≤ left) × Ready (now table) (walk .edge) left c × IsWalk walk × (span ≡ spanOf (walk .x) (walk .y) (c .square) (walk .steps)) × (span .first <ℤ span .last) ⌝ }
+    ensures { λ _. ⌜ now (table .exit) ≡ added (now (table .entry)) (contribution (walk .edge) left c) ⌝ }
 {
-    let tile = tile_of(depth);
-    if lies_on(e, tile.square.width) {
-        descend(table, e, sign, depth)
-    } else {
-        tile
-    }
-}
-
-// Does the walk move in both directions?
-fn is_slanted(w: Walk) -> bool
-    requires { ⌜ IsWalk w ⌝ }
-    ensures { λ b. ⌜ Decides b (Moving (w .x) × Moving (w .y)) ⌝ }
-{
-    w.x.sign != 0 && w.y.sign != 0
-}
-
-// Adds a walk's edge, of which some part lies inside a cell, to the cell and to those below it, `left` levels in all; takes it out where the sign is -1.
-fn add_inside(table: &mut [i64], walk: Walk, sign: i64, c: Node, span: Span, left: usize)
-    requires { ⌜ (1 ≤ left) × Ready (now table) (walk .edge) left c × IsWalk walk × (span ≡ spanOf (walk .x) (walk .y) (c .square) (walk .steps)) × (span .first <ℤ span .last) × Within (pos 1) sign ⌝ }
-    ensures { λ _. ⌜ now (table .exit) ≡ added (now (table .entry)) (λ i. sign *ℤ contribution (walk .edge) left c i) ⌝ }
-{
-    if is_slanted(walk) {
+    if slanted::is_slanted(walk) {
         let half = edge::half_of(c.square.width);
         let k = slanted::piece_of(walk, c.square, half, span);
         add_slanted(
@@ -442,7 +416,6 @@ fn add_inside(table: &mut [i64], walk: Walk, sign: i64, c: Node, span: Span, lef
             walk.divisor,
             walk.x.sign,
             walk.y.sign,
-            sign,
             c.level,
             c.x,
             c.y,
@@ -455,20 +428,87 @@ fn add_inside(table: &mut [i64], walk: Walk, sign: i64, c: Node, span: Span, lef
             left,
         );
     } else {
-        add_node(table, walk, sign, c, span, left);
+        add_node(table, walk, c, span, left);
     }
 }
 
-// Adds an edge to a cell and to those below it, `left` levels in all, or takes it out where the sign is -1. An edge no part of which lies inside the cell adds
-// nothing there.
-fn add_below(table: &mut [i64], e: Edge, sign: i64, c: Node, left: usize)
-    requires { ⌜ (1 ≤ left) × Ready (now table) e left c × Within (pos 1) sign ⌝ }
-    ensures { λ _. ⌜ now (table .exit) ≡ added (now (table .entry)) (λ i. sign *ℤ contribution e left c i) ⌝ }
+// The same of any walk: an edge no part of which lies inside the cell adds nothing there.
+fn add_walk(table: &mut [i64], walk: Walk, c: Node, span: Span, left: usize)
+    requires { ⌜ (1 ≤ left) × Ready (now table) (walk .edge) left c × IsWalk walk × (span ≡ spanOf (walk .x) (walk .y) (c .square) (walk .steps)) ⌝ }
+    ensures { λ _. ⌜ now (table .exit) ≡ added (now (table .entry)) (contribution (walk .edge) left c) ⌝ }
+{
+    if span.first < span.last {
+        add_inside(table, walk, c, span, left);
+    }
+}
+
+// Adds an edge that lies on a cell to it and to those below it, `left` levels in all.
+fn add_on(table: &mut [i64], e: Edge, c: Node, left: usize)
+    requires { ⌜ (1 ≤ left) × Ready (now table) e left c × OnCell (c .square) e ⌝ }
+    ensures { λ _. ⌜ now (table .exit) ≡ added (now (table .entry)) (contribution e left c) ⌝ }
+{
+    let walk = edge::walk_of(e);
+    let span = slanted::span_on(walk, c.square);
+    add_walk(table, walk, c, span, left);
+}
+
+// The same of an edge that may leave the cell.
+fn add_across(table: &mut [i64], e: Edge, c: Node, left: usize)
+    requires { ⌜ (1 ≤ left) × Ready (now table) e left c ⌝ }
+    ensures { λ _. ⌜ now (table .exit) ≡ added (now (table .entry)) (contribution e left c) ⌝ }
 {
     let walk = edge::walk_of(e);
     let span = edge::span_in(walk, c.square);
-    if span.first < span.last {
-        add_inside(table, walk, sign, c, span, left);
+    add_walk(table, walk, c, span, left);
+}
+
+// Adds the details of an edge on the tile: first on the way down, and where that ends, from the cell there on.
+fn add_down(table: &mut [i64], e: Edge, depth: usize)
+    requires { ⌜ Ready (now table) e depth (nodeAt depth 0 0 0) × OnCell (tileSquare depth) e ⌝ }
+    ensures { λ _. ⌜ now (table .exit) ≡ added (now (table .entry)) (contribution e depth (nodeAt depth 0 0 0)) ⌝ }
+{
+    let c = descend(table, e, depth);
+    if c.level < depth {
+        add_on(table, e, c, depth - c.level);
+    }
+}
+
+// Adds the details of an edge, as the tile has it. One that leaves the tile has no way down: the recursion begins at the tile.
+fn add_seen(table: &mut [i64], e: Edge, depth: usize)
+    requires { ⌜ Ready (now table) e depth (nodeAt depth 0 0 0) × Measured e ⌝ }
+    ensures { λ _. ⌜ now (table .exit) ≡ added (now (table .entry)) (contribution e depth (nodeAt depth 0 0 0)) ⌝ }
+{
+    let tile = tile_of(depth);
+    if lies_on(e, tile.square.width) {
+        add_down(table, e, depth);
+    } else if 0 < depth {
+        add_across(table, e, tile, depth);
+    }
+}
+
+// Adds an edge, as the tile has it: its part of the root, and its details.
+fn add_whole(table: &mut [i64], e: Edge, view: View, depth: usize)
+    requires { ⌜ Fits (now table) depth 1 × Seen view depth e ⌝ }
+    ensures { λ _. ⌜ now (table .exit) ≡ added (now (table .entry)) (entryOf depth (seenTable view depth e)) ⌝ }
+{
+    let tile = tile_of(depth);
+    add_at(table, 0, root_part(view, e, tile.square, depth));
+    add_seen(table, e, depth);
+}
+
+// The edge, and where the sign is -1 the way back along it, which adds the opposite.
+fn turned_by(e: Edge, sign: i64) -> Edge
+    ensures { λ r. ⌜ r ≡ turnedBy sign e ⌝ }
+{
+    if sign < 0 {
+        Edge {
+            x0: e.x1,
+            y0: e.y1,
+            x1: e.x0,
+            y1: e.y0,
+        }
+    } else {
+        e
     }
 }
 
@@ -477,12 +517,9 @@ pub fn add_edge(table: &mut [i64], e: Edge, view: View, sign: i64, depth: usize)
     requires { ⌜ Fits (now table) depth 1 × InView view depth e × Within (pos 1) sign ⌝ }
     ensures { λ _. ⌜ now (table .exit) ≡ added (now (table .entry)) (λ i. sign *ℤ entryOf depth (partTable view depth e) i) ⌝ }
 {
-    let tile = tile_of(depth);
-    let seen = seen_by(view, e);
-    add_at(table, 0, sign, root_part(view, seen, tile.square, depth));
-    let c = descend_on(table, seen, sign, depth);
-    if c.level < depth {
-        add_below(table, seen, sign, c, depth - c.level);
+    if sign != 0 {
+        let way = turned_by(seen_by(view, e), sign);
+        add_whole(table, way, view, depth);
     }
 }
 

@@ -16,3 +16,5 @@ pub mod PieceSound
 pub mod PieceParts
 -- the slanted edge of 01's letter G
 pub mod LetterG
+-- a slanted edge on a cell: all its steps are inside
+pub mod WholeSpan

@@ -23,9 +23,10 @@ ghost use Rattle.integers.specs.Within.{Within};
 ghost use Rattle.integers.specs.MinMax.{min, max};
 ghost use Rattle.edge.specs.Cuts.{span as spanOf, toSide};
 ghost use Rattle.edge.specs.Room.{coordinateLimit, extentLimit, crossingLimit, Even, Room};
-ghost use Rattle.edge.specs.WalkOf.{IsWalk};
+ghost use Rattle.edge.specs.WalkOf.{IsWalk, Decides};
+ghost use Rattle.edge.specs.Nested.{OnCell};
 ghost use Rattle.slanted.specs.Under.{signedSquare, under, turned as turnedSum, underLimit, sumLimit, farLimit, Arch, Turns};
-ghost use Rattle.slanted.specs.Pieces.{pieceOf, roundedDetails, signedBy, Sound, Ranged};
+ghost use Rattle.slanted.specs.Pieces.{Moving, pieceOf, roundedDetails, signedBy, Sound, Ranged};
 ghost use Rattle.slanted.specs.Parts.{since as sinceOf, until as untilOf, shifted as shiftedBy, IsPart};
 use edge::Axis;
 use edge::Cell;
@@ -52,6 +53,29 @@ pub struct Piece {
 }
 
 // ---- from a walk
+
+// Does the walk move in both directions?
+pub fn is_slanted(w: Walk) -> bool
+    requires { ⌜ IsWalk w ⌝ }
+    ensures { λ b. ⌜ Decides b (Moving (w .x) × Moving (w .y)) ⌝ }
+{
+    w.x.sign != 0 && w.y.sign != 0
+}
+
+// The steps inside a cell that the edge lies on: all of them, if it is slanted.
+pub fn span_on(w: Walk, c: Cell) -> Span
+    requires { ⌜ IsWalk w × Room (w .edge) c × OnCell c (w .edge) ⌝ }
+    ensures { λ s. ⌜ s ≡ spanOf (w .x) (w .y) c (w .steps) ⌝ }
+{
+    if is_slanted(w) {
+        Span {
+            first: 0,
+            last: w.steps,
+        }
+    } else {
+        edge::span_in(w, c)
+    }
+}
 
 // The step at which a direction crosses the middle between its sides, p being half of the width in its steps.
 fn middle_of(a: Axis, side: i64, p: i64) -> i64

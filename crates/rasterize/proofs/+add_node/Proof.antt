@@ -1,19 +1,16 @@
 -- A cell's own details, and then its quarters, in a loop: one level less at each call.
-use mathlib.Core.Path.{_≡_, _∙_, ap₂, subst⁻¹}
+use mathlib.Core.Path.{_≡_, _∙_, ap, subst⁻¹}
 use mathlib.Core.List.{List}
 use mathlib.Core.Logic.{⊎-elim}
 use Prim.Native.Nat.{ℕ, suc, _-_, _<_, _≤_}
 use native.Mathlib.Omega.{arith}
-use lib.IntN.{ℤ, pos, _*ℤ_}
+use lib.IntN.{ℤ}
 use lib.Signed.{_≤ℤ_}
 use mir.Syntax.{w64}
-use mir.Val.{SFits, toZ}
-use mir.Facts.{toZ-ofZ}
+use mir.Val.{SFits}
 use borrow.Fn.Kinds.{In}
 use borrow.Fn.PlainCycle.{Measures, is, falls, and}
 use Rattle.integers.specs.Machine.{tests}
-use Rattle.integers.specs.Within.{Within}
-use Rattle.integers.specs.Bits.{back, within-back}
 use Rattle.rasterize.specs.Added.{added}
 use Rattle.rasterize.specs.Nodes.{quarters}
 use Rattle.rasterize.specs.Contribution.{contribution}
@@ -35,7 +32,7 @@ use Rattle.rasterize.proofs.+add_node.Tie.{close}
 
 -- the levels left
 abbrev μ-add-node : Measures 1 add-node-kinds.ps ℕ
-μ-add-node κs a = a .1 .1 .1 .1 .1 .0
+μ-add-node κs a = a .1 .1 .1 .1 .0
 
 abbrev add-node-at : ℕ → In 1 add-node-kinds.ps
 add-node-at t = and 1 add-node-kinds.ps (is 1 add-node-kinds.ps μ-add-node t) add-node.Pre
@@ -45,10 +42,10 @@ add-node-below t = and 1 add-node-kinds.ps (falls 1 add-node-kinds.ps _<_ μ-add
 
 -- the loop begins when the cell has added its own details
 abbrev add-node-Inv-loop : add-node-lts.InvT-loop
-add-node-Inv-loop table₀ walk sign c left q₀ table q = QuarterLoop asNumbered (walk .edge) (toZ w64 sign) c (left - 1) table₀ table q
+add-node-Inv-loop table₀ walk c left q₀ table q = QuarterLoop asNumbered (walk .edge) c (left - 1) table₀ table q
 
 abbrev add-node-μ-loop : add-node-lts.MeasureT-loop
-add-node-μ-loop table₀ walk sign c left q₀ table q = quarters - q
+add-node-μ-loop table₀ walk c left q₀ table q = quarters - q
 
 abbrev claims : ℕ → add-node-lts.Claims
 claims t = (
@@ -71,24 +68,19 @@ module _ {t : ℕ} (s : add-node-lts.Start (claims t) (add-node-at t) add-node.P
   ready : Ready (s .args .table .now) (s .args .walk .edge) (suc (s .args .left - 1)) (s .args .c)
   ready = ready-suc (s .pre .1 .0) (s .pre .1 .1)
 
-  -- the sign, read back from its bits
-  signed : Within (pos 1) (back (s .args .sign))
-  signed = within-back (s .fits .sign) (s .pre .1 .4)
-
-  -- the whole of what is added, with the sign and the number of levels as they were given
-  as-given : {after : List ℤ}
-      → after ≡ added (s .args .table .now) (λ i. back (s .args .sign) *ℤ contribution (s .args .walk .edge) (suc (s .args .left - 1)) (s .args .c) i)
-      → after ≡ added (s .args .table .now) (λ i. s .args .sign *ℤ contribution (s .args .walk .edge) (s .args .left) (s .args .c) i)
+  -- the whole of what is added, with the number of levels as it was given
+  as-given : {after : List ℤ} → after ≡ added (s .args .table .now) (contribution (s .args .walk .edge) (suc (s .args .left - 1)) (s .args .c))
+      → after ≡ added (s .args .table .now) (contribution (s .args .walk .edge) (s .args .left) (s .args .c))
   as-given e =
       let all : suc (s .args .left - 1) ≡ s .args .left = omega (arith, s .pre .1 .0) in
-      e ∙ ap₂ (λ z n. added (s .args .table .now) (λ i. z *ℤ contribution (s .args .walk .edge) n (s .args .c) i)) (toZ-ofZ (s .fits .sign)) all
+      e ∙ ap (λ n. added (s .args .table .now) (contribution (s .args .walk .edge) n (s .args .c))) all
 
 -- ---- when the cell has added its own details
 module _ {t : ℕ} (d : add-node-lts.After-add-details (claims t) (add-node-at t) add-node.Post add-node-Inv-loop add-node-μ-loop) where
   abbrev start : add-node-lts.Start (claims t) (add-node-at t) add-node.Post add-node-Inv-loop add-node-μ-loop
   start = d .before .before .before .before
 
-  own : OwnAdded (start .args .walk .edge) (back (start .args .sign)) (start .args .c) (start .args .table .now) (d .add-details .last .0)
+  own : OwnAdded (start .args .walk .edge) (start .args .c) (start .args .table .now) (d .add-details .last .0)
   own = own-added (d .before .before .before .details-over .ensures) (d .before .first-detail .ensures) (d .add-details .ensures)
 
 -- ---- in the loop
@@ -113,7 +105,6 @@ pub +add-node-spec : {M : Type 1} → statement M
       ready-first (ready s) (c .first-detail .ensures),
       ready-own (ready s),
       subst⁻¹ SmallDetails (c .before .before .details-over .ensures) (on-sheet-details (ready s .on-sheet)),
-      signed s,
     ))
     -- no quarter yet
     (λ c. quarters-start _ _ _)
@@ -132,10 +123,9 @@ pub +add-node-spec : {M : Type 1} → statement M
       omega (arith, s .pre .0, s .pre .1 .0),
       (
         below i,
-        quarters-asks (ready s) (signed s) (own (entry i)) as-numbered (i .before .loop .inv) (i .loop-test .taken) (q .quarter-of .ensures),
+        quarters-asks (ready s) (own (entry i)) as-numbered (i .before .loop .inv) (i .loop-test .taken) (q .quarter-of .ensures),
         s .pre .1 .2,
         c .before .before .before .before .span-in .ensures,
-        signed s,
       ),
     ))
     (λ c. record { fits = omega (arith, c .before .before .before .before .before .loop-test .taken) })

@@ -5,16 +5,15 @@ use mathlib.Core.Logic.{⊎-elim}
 use Prim.Native.Nat.{ℕ, suc, _+_, _-_, _<_, _≤_}
 use native.Mathlib.Omega.{arith}
 use lib.ListN.{length}
-use lib.IntN.{ℤ, pos, _*ℤ_}
+use lib.IntN.{ℤ}
 use lib.Signed.{_≤ℤ_, _<ℤ_}
 use mir.Syntax.{w64}
-use mir.Val.{SFits, toZ}
+use mir.Val.{SFits}
 use mir.Facts.{toZ-ofZ}
 use borrow.Fn.Kinds.{In}
 use borrow.Fn.PlainCycle.{Measures, is, falls, and}
 use Rattle.integers.specs.Machine.{tests}
-use Rattle.integers.specs.Within.{Within}
-use Rattle.integers.specs.Bits.{back, within-back, field-is}
+use Rattle.integers.specs.Bits.{back, field-is}
 use Rattle.slanted.specs.declared.Slope.{Slope}
 use Rattle.slanted.specs.declared.Piece.{Piece}
 use Rattle.slanted.specs.Pieces.{Sound}
@@ -43,7 +42,7 @@ use Rattle.rasterize.proofs.+add_slanted.Tie.{close}
 
 -- the levels left
 abbrev μ-add-slanted : Measures 1 add-slanted-kinds.ps ℕ
-μ-add-slanted κs a = a .1 .1 .1 .1 .1 .1 .1 .1 .1 .1 .1 .1 .1 .1 .0
+μ-add-slanted κs a = a .1 .1 .1 .1 .1 .1 .1 .1 .1 .1 .1 .1 .1 .0
 
 abbrev add-slanted-at : ℕ → In 1 add-slanted-kinds.ps
 add-slanted-at t = and 1 add-slanted-kinds.ps (is 1 add-slanted-kinds.ps μ-add-slanted t) add-slanted.Pre
@@ -53,11 +52,11 @@ add-slanted-below t = and 1 add-slanted-kinds.ps (falls 1 add-slanted-kinds.ps _
 
 -- the loop begins when the cell has added its own details
 abbrev add-slanted-Inv-loop : add-slanted-lts.InvT-loop
-add-slanted-Inv-loop table₀ divisor sx sy sign level x y first last mx my hx hy left l k p q₀ table q =
-    SlantedLoop (toZ w64 sign) l p k (left - 1) table₀ table q
+add-slanted-Inv-loop table₀ divisor sx sy level x y first last mx my hx hy left l k p q₀ table q =
+    SlantedLoop l p k (left - 1) table₀ table q
 
 abbrev add-slanted-μ-loop : add-slanted-lts.MeasureT-loop
-add-slanted-μ-loop table₀ divisor sx sy sign level x y first last mx my hx hy left l k p q₀ table q = quarters - q
+add-slanted-μ-loop table₀ divisor sx sy level x y first last mx my hx hy left l k p q₀ table q = quarters - q
 
 abbrev claims : ℕ → add-slanted-lts.Claims
 claims t = (
@@ -96,10 +95,6 @@ module _ {t : ℕ} (s : add-slanted-lts.Start (claims t) (add-slanted-at t) add-
   given = subst⁻¹ (λ z. SlantedReady (s .args .table .now) z p k (s .args .left)) slope-is
       (subst⁻¹ (λ z. SlantedReady (s .args .table .now) (slope (s .args .divisor) (s .args .sx) (s .args .sy)) p z (s .args .left)) piece-is (s .pre .1 .1))
 
-  -- the sign, read back from its bits
-  signed : Within (pos 1) (back (s .args .sign))
-  signed = within-back (s .fits .sign) (s .pre .1 .2)
-
   -- with at least one level, and with two
   one : SlantedReady (s .args .table .now) l p k (suc (s .args .left - 1))
   one = subst (SlantedReady (s .args .table .now) l p k) {y = suc (s .args .left - 1)} (omega (arith, s .pre .1 .0)) given
@@ -111,20 +106,19 @@ module _ {t : ℕ} (s : add-slanted-lts.Start (claims t) (add-slanted-at t) add-
   sound = slants-sound (one .slants) (one .ready .on-sheet) (one .inside)
 
   -- what has been added, with the numbers as they were given
-  as-given : {after : List ℤ} → SlantedAdds (s .args .table .now) after (back (s .args .sign)) l p k (suc (s .args .left - 1))
-      → SlantedAdds (s .args .table .now) after (s .args .sign) (slope (s .args .divisor) (s .args .sx) (s .args .sy)) p
+  as-given : {after : List ℤ} → SlantedAdds (s .args .table .now) after l p k (suc (s .args .left - 1))
+      → SlantedAdds (s .args .table .now) after (slope (s .args .divisor) (s .args .sx) (s .args .sy)) p
       (piece (s .args .first) (s .args .last) (s .args .mx) (s .args .my) (s .args .hx) (s .args .hy)) (s .args .left)
   as-given {after} e =
-      subst (λ z. SlantedAdds (s .args .table .now) after (s .args .sign) (slope (s .args .divisor) (s .args .sx) (s .args .sy)) p z (s .args .left)) piece-is
-      (subst (λ z. SlantedAdds (s .args .table .now) after (s .args .sign) z p k (s .args .left)) slope-is
-      (subst (λ z. SlantedAdds (s .args .table .now) after z l p k (s .args .left)) (toZ-ofZ (s .fits .sign))
-      (subst (SlantedAdds (s .args .table .now) after (back (s .args .sign)) l p k) {x = suc (s .args .left - 1)} (omega (arith, s .pre .1 .0)) e)))
+      subst (λ z. SlantedAdds (s .args .table .now) after (slope (s .args .divisor) (s .args .sx) (s .args .sy)) p z (s .args .left)) piece-is
+      (subst (λ z. SlantedAdds (s .args .table .now) after z p k (s .args .left)) slope-is
+      (subst (SlantedAdds (s .args .table .now) after l p k) {x = suc (s .args .left - 1)} (omega (arith, s .pre .1 .0)) e))
 
   -- the table is as long as it was
-  as-long : {after : List ℤ} {left : ℕ} → left ≡ suc (s .args .left - 1) → SlantedAdds (s .args .table .now) after (back (s .args .sign)) l p k left
+  as-long : {after : List ℤ} {left : ℕ} → left ≡ suc (s .args .left - 1) → SlantedAdds (s .args .table .now) after l p k left
       → length after ≡ length (s .args .table .now)
   as-long {after} {left} e a =
-      ap length (subst (SlantedAdds (s .args .table .now) after (back (s .args .sign)) l p k) e a .adds (one .slants) (one .ready .on-sheet))
+      ap length (subst (SlantedAdds (s .args .table .now) after l p k) e a .adds (one .slants) (one .ready .on-sheet))
       ∙ added-length (s .args .table .now) _
 
 -- ---- when the cell has added its own details
@@ -132,7 +126,7 @@ module _ {t : ℕ} (d : add-slanted-lts.After-add-details (claims t) (add-slante
   abbrev start : add-slanted-lts.Start (claims t) (add-slanted-at t) add-slanted.Post add-slanted-Inv-loop add-slanted-μ-loop
   start = d .before .before .before .before
 
-  own : (left : ℕ) → SlantedOwn (back (start .args .sign)) (l start) (p start) (k start) left (start .args .table .now) (d .add-details .last .0)
+  own : (left : ℕ) → SlantedOwn (l start) (p start) (k start) left (start .args .table .now) (d .add-details .last .0)
   own left = slanted-own (one start .inside) (d .before .before .before .details-of .ensures) (d .before .first-detail .ensures) (d .add-details .ensures)
 
 -- ---- in the loop
@@ -146,8 +140,8 @@ module _ {t : ℕ} (i : add-slanted-lts.In-loop (claims t) (add-slanted-at t) ad
   below : suc (start entry .args .left - 2) ≡ start entry .args .left - 1
   below = omega (arith, deep)
 
-  reached : SlantedLoop (back (start entry .args .sign)) (l (start entry)) (p (start entry)) (k (start entry)) (suc (start entry .args .left - 2)) (entry .add-details .last .0) (i .before .loop .table) (i .before .loop .q)
-  reached = subst⁻¹ (λ n. SlantedLoop (back (start entry .args .sign)) (l (start entry)) (p (start entry)) (k (start entry)) n (entry .add-details .last .0) (i .before .loop .table) (i .before .loop .q)) below (i .before .loop .inv)
+  reached : SlantedLoop (l (start entry)) (p (start entry)) (k (start entry)) (suc (start entry .args .left - 2)) (entry .add-details .last .0) (i .before .loop .table) (i .before .loop .q)
+  reached = subst⁻¹ (λ n. SlantedLoop (l (start entry)) (p (start entry)) (k (start entry)) n (entry .add-details .last .0) (i .before .loop .table) (i .before .loop .q)) below (i .before .loop .inv)
 
 -- ---- a part of the piece
 module _ {t : ℕ} (g : add-slanted-lts.After-struct-told (claims t) (add-slanted-at t) add-slanted.Post add-slanted-Inv-loop add-slanted-μ-loop) where
@@ -179,24 +173,24 @@ module _ {t : ℕ} (g : add-slanted-lts.After-struct-told (claims t) (add-slante
       subst⁻¹ (λ z. SlantedReady (next .before .loop .table) (l from) n z (from .args .left - 1)) part-is
       (subst⁻¹ (λ z. SlantedReady (next .before .loop .table) (l from) z r (from .args .left - 1)) e
       (subst (SlantedReady (next .before .loop .table) (l from) (quarterSpot (p from) (quarterOnWay (l from) (next .before .loop .q))) r) (below next)
-      (slanted-asks (reached next) (next .loop-test .taken) (g .before .before .part-of .ensures) (signed from) (two from (deep next)) (own (entry next) _) i)))
+      (slanted-asks (reached next) (next .loop-test .taken) (g .before .before .part-of .ensures) (two from (deep next)) (own (entry next) _) i)))
 
   -- and what it has added
   stepped : {n : Spot} {after called : List ℤ} → n ≡ quarterSpot (p from) (quarterOnWay (l from) (next .before .loop .q))
-      → after ≡ called → SlantedAdds (next .before .loop .table) called (back (from .args .sign)) (l from) n (piece (back (r .first)) (back (r .last)) (back (r .«middle_x»)) (back (r .«middle_y»)) (back (r .«half_x»)) (back (r .«half_y»))) (from .args .left - 1)
-      → SlantedLoop (back (from .args .sign)) (l from) (p from) (k from) (from .args .left - 1) (entry next .add-details .last .0) after (next .before .loop .q + 1)
+      → after ≡ called → SlantedAdds (next .before .loop .table) called (l from) n (piece (back (r .first)) (back (r .last)) (back (r .«middle_x»)) (back (r .«middle_y»)) (back (r .«half_x»)) (back (r .«half_y»))) (from .args .left - 1)
+      → SlantedLoop (l from) (p from) (k from) (from .args .left - 1) (entry next .add-details .last .0) after (next .before .loop .q + 1)
   stepped {n} {after} e same b =
-      let a = subst⁻¹ (λ z. SlantedAdds (next .before .loop .table) z (back (from .args .sign)) (l from) n (piece (back (r .first)) (back (r .last)) (back (r .«middle_x»)) (back (r .«middle_y»)) (back (r .«half_x»)) (back (r .«half_y»))) (from .args .left - 1)) same b in
-      subst (λ m. SlantedLoop (back (from .args .sign)) (l from) (p from) (k from) m (entry next .add-details .last .0) after (next .before .loop .q + 1)) (below next)
+      let a = subst⁻¹ (λ z. SlantedAdds (next .before .loop .table) z (l from) n (piece (back (r .first)) (back (r .last)) (back (r .«middle_x»)) (back (r .«middle_y»)) (back (r .«half_x»)) (back (r .«half_y»))) (from .args .left - 1)) same b in
+      subst (λ m. SlantedLoop (l from) (p from) (k from) m (entry next .add-details .last .0) after (next .before .loop .q + 1)) (below next)
       (slanted-step (reached next) (next .loop-test .taken) (g .before .before .part-of .ensures)
-      (subst⁻¹ (SlantedAdds (next .before .loop .table) after (back (from .args .sign)) (l from) (quarterSpot (p from) (quarterOnWay (l from) (next .before .loop .q))) r) (below next)
-      (subst (λ z. SlantedAdds (next .before .loop .table) after (back (from .args .sign)) (l from) z r (from .args .left - 1)) e
-      (subst (λ z. SlantedAdds (next .before .loop .table) after (back (from .args .sign)) (l from) n z (from .args .left - 1)) part-is a))))
+      (subst⁻¹ (SlantedAdds (next .before .loop .table) after (l from) (quarterSpot (p from) (quarterOnWay (l from) (next .before .loop .q))) r) (below next)
+      (subst (λ z. SlantedAdds (next .before .loop .table) after (l from) z r (from .args .left - 1)) e
+      (subst (λ z. SlantedAdds (next .before .loop .table) after (l from) n z (from .args .left - 1)) part-is a))))
 
   skipped : {after : List ℤ} → r .last ≤ℤ r .first → after ≡ next .before .loop .table
-      → SlantedLoop (back (from .args .sign)) (l from) (p from) (k from) (from .args .left - 1) (entry next .add-details .last .0) after (next .before .loop .q + 1)
+      → SlantedLoop (l from) (p from) (k from) (from .args .left - 1) (entry next .add-details .last .0) after (next .before .loop .q + 1)
   skipped {after} h e =
-      subst (λ m. SlantedLoop (back (from .args .sign)) (l from) (p from) (k from) m (entry next .add-details .last .0) after (next .before .loop .q + 1)) (below next)
+      subst (λ m. SlantedLoop (l from) (p from) (k from) m (entry next .add-details .last .0) after (next .before .loop .q + 1)) (below next)
       (slanted-skip (reached next) (next .loop-test .taken) (g .before .before .part-of .ensures) h e)
 
 pub +add-slanted-spec : {M : Type 1} → statement M
@@ -214,7 +208,6 @@ pub +add-slanted-spec : {M : Type 1} → statement M
       ready-first (m .ready) (c .first-detail .ensures),
       ready-own (m .ready),
       subst⁻¹ SmallDetails (c .before .before .details-of .ensures ∙ slants-details (m .slants) (m .ready .on-sheet) (m .inside)) (on-sheet-details (m .ready .on-sheet)),
-      signed s,
     ))
     -- no quarter yet
     (λ c. slanted-start _ _)
@@ -239,7 +232,7 @@ pub +add-slanted-spec : {M : Type 1} → statement M
     let h = last-fits g in
     let i : r g .first <ℤ r g .last = search tests in (
       omega (arith, s .pre .0, s .pre .1 .0),
-      (omega (arith, deep (next g)), asked g (c .before .before .before .before .before .before .before .quarter-on .ensures) i, signed s),
+      (omega (arith, deep (next g)), asked g (c .before .before .before .before .before .before .before .quarter-on .ensures) i),
     ))
     (λ c. record { fits = omega (arith, c .before .before .before .before .loop-test .taken) })
     (λ c. omega (arith, c .before .before .before .before .loop-test .taken))

@@ -6,7 +6,7 @@ use native.Mathlib.Omega.{arith}
 use native.Mathlib.Decide.{decLt}
 use lib.ListN.{length, getD, set, length-set}
 use lib.Seq.{getD-set-same, getD-set-other}
-use lib.IntN.{ℤ, pos, _+ℤ_, _*ℤ_}
+use lib.IntN.{ℤ, pos, _+ℤ_}
 use borrow.Author.Needs.{needs}
 use Rattle.integers.specs.Ring.{read, ring}
 use Rattle.integers.specs.Order.{pos-≤ℤ}
@@ -23,43 +23,43 @@ use Rattle.rasterize.proofs.add_details.Statement.{statement}
 use Rattle.rasterize.proofs.add_details.Tie as tie
 
 -- ---- the list
-module _ (t : List ℤ) (w : Details) (sign : ℤ) (first : ℕ) where
+module _ (t : List ℤ) (w : Details) (first : ℕ) where
   -- the first m of the three are in, and what comes after them is as before
   record AddedTo (u : List ℤ) (m : ℕ) : Type 0 where
-    below : (i : ℕ) → i < first + m → getD u i (pos 0) ≡ getD t i (pos 0) +ℤ sign *ℤ ownPart w first i
+    below : (i : ℕ) → i < first + m → getD u i (pos 0) ≡ getD t i (pos 0) +ℤ ownPart w first i
     rest : (i : ℕ) → first + m ≤ i → getD u i (pos 0) ≡ getD t i (pos 0)
     same-length : length u ≡ length t
 
   own-is : (i k : ℕ) → suc i - first ≡ k → ownPart w first i ≡ numbered w k
   own-is i k e = ap (numbered w) e
 
-  unchanged : (i : ℕ) → ownPart w first i ≡ pos 0 → getD t i (pos 0) ≡ getD t i (pos 0) +ℤ sign *ℤ ownPart w first i
+  unchanged : (i : ℕ) → ownPart w first i ≡ pos 0 → getD t i (pos 0) ≡ getD t i (pos 0) +ℤ ownPart w first i
   unchanged i e =
-      ring (getD t i (pos 0) ∷ sign ∷ []) (search read depth 40) tt ∙ ap (λ z. getD t i (pos 0) +ℤ sign *ℤ z) {x = pos 0} (sym e)
+      ring (getD t i (pos 0) ∷ []) (search read depth 40) tt ∙ ap (λ z. getD t i (pos 0) +ℤ z) {x = pos 0} (sym e)
 
   added-to-start : AddedTo t 0
   unfolding numbered
   added-to-start = record { below = λ i h. unchanged i (own-is i 0 (omega arith)); rest = λ i h. refl; same-length = refl }
 
-  added-to-step : {u : List ℤ} {m n : ℕ} {z : ℤ} → AddedTo u m → n ≡ first + m → n < length t → z ≡ sign *ℤ numbered w (suc m)
+  added-to-step : {u : List ℤ} {m n : ℕ} {z : ℤ} → AddedTo u m → n ≡ first + m → n < length t → z ≡ numbered w (suc m)
       → AddedTo (set u n (getD u n (pos 0) +ℤ z)) (suc m)
   added-to-step {u} {m} {n} {z} a j h e = record {
     below = λ i k.
         elim (decLt i n) [
           | yes p ↦ getD-set-other u n i _ (pos 0) (omega arith) ∙ a .below i (omega arith)
           | no p ↦ (let q : n ≡ i = omega arith in
-              subst (λ i. getD (set u n (getD u n (pos 0) +ℤ z)) i (pos 0) ≡ getD t i (pos 0) +ℤ sign *ℤ ownPart w first i) q
+              subst (λ i. getD (set u n (getD u n (pos 0) +ℤ z)) i (pos 0) ≡ getD t i (pos 0) +ℤ ownPart w first i) q
               (getD-set-same u n _ (pos 0) (omega (arith, a .same-length))
-              ∙ ap₂ _+ℤ_ (a .rest n (omega arith)) (e ∙ ap (λ x. sign *ℤ x) (sym (own-is n (suc m) (omega arith))))))
+              ∙ ap₂ _+ℤ_ (a .rest n (omega arith)) (e ∙ sym (own-is n (suc m) (omega arith)))))
         ];
     rest = λ i k. getD-set-other u n i _ (pos 0) (omega arith) ∙ a .rest i (omega arith);
     same-length = length-set u n _ ∙ a .same-length;
   }
 
-  added-to-end : {u : List ℤ} → AddedTo u 3 → u ≡ added t (λ i. sign *ℤ ownPart w first i)
+  added-to-end : {u : List ℤ} → AddedTo u 3 → u ≡ added t (ownPart w first)
   unfolding numbered
   added-to-end {u} a =
-      added-unique t u (λ i. sign *ℤ ownPart w first i) (a .same-length)
+      added-unique t u (ownPart w first) (a .same-length)
       (λ i h.
       elim (decLt i (first + 3)) [
         | yes p ↦ a .below i p
@@ -72,24 +72,23 @@ module _ (s : tie.Start) where
   table = s .args .table .now
 
   abbrev Now : List ℤ → ℕ → Type 0
-  Now u m = AddedTo table (s .args .w) (s .args .sign) (s .args .first) u m
+  Now u m = AddedTo table (s .args .w) (s .args .first) u m
 
   module _ {u : List ℤ} {m n : ℕ} {x : ℤ} (a : Now u m) (j : n ≡ s .args .first + m) (h : n < length table) (k : Within (pos detailLimit) x) where
-    asked : (n < length u) × Within (pos sumLimit) (getD u n (pos 0)) × Within (pos detailLimit) (back x) × Within (pos 1) (back (s .args .sign))
+    asked : (n < length u) × Within (pos sumLimit) (getD u n (pos 0)) × Within (pos detailLimit) (back x)
     asked =
         let r = s .pre .1 .room in (
           omega (arith, a .same-length),
           subst⁻¹ (Within (pos sumLimit)) (a .rest n (omega arith)) (within-le (pos-≤ℤ (omega arith)) (s .pre .1 .each n)),
           within-back (fits-within tt k) k,
-          within-back (fits-within tt (s .pre .3)) (s .pre .3),
         )
 
-    answered : {v : List ℤ} → numbered (s .args .w) (suc m) ≡ x → v ≡ set u n (getD u n (pos 0) +ℤ back (s .args .sign) *ℤ back x) → Now v (suc m)
+    answered : {v : List ℤ} → numbered (s .args .w) (suc m) ≡ x → v ≡ set u n (getD u n (pos 0) +ℤ back x) → Now v (suc m)
     answered e f =
-        subst⁻¹ (λ v. Now v (suc m)) f (added-to-step _ _ _ _ a j h (ap₂ _*ℤ_ (back-is tt (s .pre .3)) (back-is tt k ∙ sym e)))
+        subst⁻¹ (λ v. Now v (suc m)) f (added-to-step _ _ _ a j h (back-is tt k ∙ sym e))
 
   start : Now table 0
-  start = added-to-start table (s .args .w) (s .args .sign) (s .args .first)
+  start = added-to-start table (s .args .w) (s .args .first)
 
 add-at-requires : tie.Need-add-at-requires
 add-at-requires c κs = let s = c .before .before in asked s (start s) (omega arith) (omega (arith, s .pre .0)) (s .pre .2 .h)
@@ -127,7 +126,7 @@ unfolding numbered
 returns c =
     let v = c .before .before .before .before .before in
     let s = first-call v .before .before .before in
-    added-to-end _ _ _ _ (answered s (after-v v) refl (omega (arith, s .pre .0)) (s .pre .2 .d) refl (c .before .add-at3 .ensures))
+    added-to-end _ _ _ (answered s (after-v v) refl (omega (arith, s .pre .0)) (s .pre .2 .d) refl (c .before .add-at3 .ensures))
 
 pub add-details-spec : {M : Type 1} → statement M
 add-details-spec =

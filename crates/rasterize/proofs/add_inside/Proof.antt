@@ -10,7 +10,7 @@ use mir.Facts.{toZ-ofZ}
 use borrow.Author.Needs.{needs}
 use Rattle.integers.specs.Order.{≤ℤ-of-<ℤ}
 use Rattle.integers.specs.Within.{within-le, within-self}
-use Rattle.integers.specs.Bits.{back, back-is, within-back}
+use Rattle.integers.specs.Bits.{back, back-is}
 use Rattle.edge.specs.declared.Span.{Span}
 use Rattle.edge.specs.Room.{Even, Room}
 use Rattle.slanted.specs.declared.Piece.{Piece}
@@ -117,23 +117,20 @@ add-slanted-requires c κs =
         inside = subst⁻¹ (λ (n : Piece). n .first <ℤ n .last) (piece-is a) (inside a);
         ready = z .pre .1;
       },
-      within-back (z .fits .sign) (z .pre .5),
     )
 
 add-node-requires : tie.Need-add-node-requires
 add-node-requires c κs =
     let z = c .before .before .before in
-    (z .pre .0, z .pre .1, z .pre .2, z .pre .3, within-back (z .fits .sign) (z .pre .5))
+    (z .pre .0, z .pre .1, z .pre .2, z .pre .3)
 
--- what was added, with the sign as it was given
+-- what was added
 module _ (c : tie.After-table) where
   abbrev by : tie.After-piece-of
   by = c .before .before .before .before .before .before .before .before .before .before .before .before
 
-  slanted-added : c .before .add-slanted .last .0 ≡ added (s by .args .table .now) (λ i. s by .args .sign *ℤ contribution (s by .args .walk .edge) (s by .args .left) (s by .args .c) i)
-  slanted-added =
-      c .before .add-slanted .ensures .adds (handed by) (s by .pre .1 .on-sheet)
-      ∙ ap (λ z. added (s by .args .table .now) (λ i. z *ℤ contribution (s by .args .walk .edge) (s by .args .left) (s by .args .c) i)) (toZ-ofZ (s by .fits .sign))
+  slanted-added : c .before .add-slanted .last .0 ≡ added (s by .args .table .now) (contribution (s by .args .walk .edge) (s by .args .left) (s by .args .c))
+  slanted-added = c .before .add-slanted .ensures .adds (handed by) (s by .pre .1 .on-sheet)
 
 same-length : tie.Need-same-length
 same-length c = ap length (slanted-added c) ∙ added-length (s (by c) .args .table .now) _
@@ -142,10 +139,7 @@ returns : tie.Need-returns
 returns c = slanted-added c
 
 returns-2 : tie.Need-returns-2
-returns-2 c =
-    let z = c .before .before .before .before .before in
-    c .before .add-node .ensures
-    ∙ ap (λ y. added (z .args .table .now) (λ i. y *ℤ contribution (z .args .walk .edge) (z .args .left) (z .args .c) i)) (toZ-ofZ (z .fits .sign))
+returns-2 c = c .before .add-node .ensures
 
 pub add-inside-spec : {M : Type 1} → statement M
 add-inside-spec =

@@ -2,17 +2,17 @@
 use mathlib.Core.Path.{_≡_, refl, _∙_, ap, ap₂, subst⁻¹}
 use Prim.Native.Nat.{suc, _*_, _-_, _<_}
 use native.Mathlib.Omega.{arith}
-use lib.IntN.{ℤ, pos, _-ℤ_, _*ℤ_}
+use lib.IntN.{ℤ, pos, _-ℤ_}
 use lib.Signed.{_≤ℤ_}
 use mir.Syntax.{w64}
 use mir.Val.{toZ}
-use mir.Facts.{toZ-ofZ, toZ-pos}
+use mir.Facts.{toZ-pos}
 use borrow.Author.Tests.{not-false}
 use Rattle.integers.specs.Order.{nonneg, pos-≤ℤ}
 use Rattle.integers.specs.Magnitude.{abs}
 use Rattle.integers.specs.Within.{Within, within-le, within-self}
 use Rattle.integers.specs.Bits.{back, back-is, within-back, fits-within}
-use Rattle.integers.specs.Held.{Held, held-number, held-sub, held-mul, held-fits, held-back, held-within}
+use Rattle.integers.specs.Held.{Held, held-number, held-sub, held-fits, held-back, held-within}
 use Rattle.edge.specs.declared.Edge.{Edge}
 use Rattle.edge.specs.Walk.{dx, dy}
 use Rattle.edge.specs.Room.{coordinateLimit, extentLimit, Measured}
@@ -22,81 +22,63 @@ use Rattle.rasterize.specs.declared.Node.{Node}
 use Rattle.rasterize.specs.declared.Stage.{Stage}
 use Rattle.rasterize.specs.Ready.{SmallDetails, Ready, Descent}
 use Rattle.rasterize.specs.Stages.{stageNode, StageRoom}
-use Rattle.rasterize.specs.Laws.Spare.{signed-within}
 use Rattle.rasterize.specs.Laws.OnSheet.{on-sheet-details}
 use Rattle.rasterize.specs.Laws.ReadyCells.{ready-own, ready-first}
-use Rattle.rasterize.proofs.Descending.{descent-sign, descent-length, below, OnWay, way-start, way-room, way-node, deeper, way-ready, way-details, way-first, way-step}
+use Rattle.rasterize.proofs.Descending.{descent-length, below, OnWay, way-start, way-room, way-node, deeper, way-ready, way-details, way-first, way-step}
 use Rattle.edge.specs.Rounded.{details}
-use Rattle.edge.specs.Laws.InQuarter.{signed as signed-by}
 use Rattle.rasterize.proofs.descend.Statement.{statement}
 use Rattle.rasterize.proofs.descend.Tie as tie
 
 abbrev Inv-loop : tie.InvT-loop
-Inv-loop table₀ e sign depth across down p₀ table p = OnWay e (toZ w64 sign) depth table₀ p table
+Inv-loop table₀ e depth across down p₀ table p = OnWay e depth table₀ p table
 
 abbrev μ-loop : tie.MeasureT-loop
-μ-loop table₀ e sign depth across down p₀ table p = depth - p .level
+μ-loop table₀ e depth across down p₀ table p = depth - p .level
 
 -- ---- before the loop
 module _ (s : tie.Start Inv-loop μ-loop) where
   abbrev e : Edge
   e = s .args .e
 
-  abbrev sign : ℤ
-  sign = back (s .args .sign)
-
   measured : Measured e
   measured = let p = s .pre .0 .on-sheet in sheet-measured (p .is-sheet) (p .edge-on)
 
-  signed : Within (pos 1) sign
-  signed = within-back (s .fits .sign) (s .pre .2)
-
   -- one direction
-  module _ {p q : ℤ} (i : Within (pos coordinateLimit) p) (j : Within (pos coordinateLimit) q) where
-    run : Held extentLimit (back q -ℤ back p) (q -ℤ p)
-    run = held-sub (held-number tt j) (held-number tt i)
+  run : {p q : ℤ} → Within (pos coordinateLimit) p → Within (pos coordinateLimit) q → Held extentLimit (back q -ℤ back p) (q -ℤ p)
+  run i j = held-sub (held-number tt j) (held-number tt i)
 
-    turned : Held extentLimit (sign *ℤ back (back q -ℤ back p)) (sign *ℤ (q -ℤ p))
-    turned = held-mul {a = 1} (record { is = refl; within = signed }) (held-back tt run)
+  across : Held extentLimit (back (e .x1) -ℤ back (e .x0)) (dx e)
+  across = run (measured .x0) (measured .x1)
 
-  across : Held extentLimit (sign *ℤ back (back (e .x1) -ℤ back (e .x0))) (sign *ℤ dx e)
-  across = turned (measured .x0) (measured .x1)
-
-  down : Held extentLimit (sign *ℤ back (back (e .y1) -ℤ back (e .y0))) (sign *ℤ dy e)
-  down = turned (measured .y0) (measured .y1)
+  down : Held extentLimit (back (e .y1) -ℤ back (e .y0)) (dy e)
+  down = run (measured .y0) (measured .y1)
 
 sub-across : tie.Need-sub-across Inv-loop μ-loop
-sub-across c = let s = c .before .before in held-fits tt (run s (measured s .x0) (measured s .x1))
-
-mul-across : tie.Need-mul-across Inv-loop μ-loop
-mul-across c = held-fits tt (across (c .before .before))
+sub-across c = held-fits tt (across (c .before .before))
 
 abbrev start : tie.After-struct-told2 Inv-loop μ-loop → tie.Start Inv-loop μ-loop
 start c = c .before .before .before .before
 
 sub-down : tie.Need-sub-down Inv-loop μ-loop
-sub-down c = let s = start c in held-fits tt (run s (measured s .y0) (measured s .y1))
-
-mul-down : tie.Need-mul-down Inv-loop μ-loop
-mul-down c = held-fits tt (down (start c))
+sub-down c = held-fits tt (down (start c))
 
 first-stage-requires : tie.Need-first-stage-requires Inv-loop μ-loop
 first-stage-requires c κs = let s = start c in (omega (arith, s .pre .0 .shallow), measured s)
 
 loop-holds : tie.Need-loop-holds Inv-loop μ-loop
-loop-holds c = let s = start (c .before) in way-start (sign s) (s .pre .0) (s .pre .1) (c .first-stage .ensures)
+loop-holds c = let s = start (c .before) in way-start (s .pre .0) (s .pre .1) (c .first-stage .ensures)
 
 -- ---- a cell that may have quarters
 abbrev entered : tie.At-loop Inv-loop μ-loop → tie.Start Inv-loop μ-loop
 entered c = start (c .before .before)
 
-way : (c : tie.At-loop Inv-loop μ-loop) → OnWay (e (entered c)) (sign (entered c)) (entered c .args .depth) (entered c .args .table .now) (c .loop .p) (c .loop .table)
+way : (c : tie.At-loop Inv-loop μ-loop) → OnWay (e (entered c)) (entered c .args .depth) (entered c .args .table .now) (c .loop .p) (c .loop .table)
 way c = c .loop .inv
 
 -- where it ends
 ended : (c : tie.At-loop Inv-loop μ-loop) {r : Node} → r ≡ stageNode (c .loop .p)
-    → Descent (e (entered c)) (entered c .args .sign) (entered c .args .depth) (entered c .args .table .now) r (c .loop .table)
-ended c k = descent-sign (toZ-ofZ (entered c .fits .sign)) (way-node (way c) k)
+    → Descent (e (entered c)) (entered c .args .depth) (entered c .args .table .now) r (c .loop .table)
+ended c k = way-node (way c) k
 
 lies-in-quarter-requires : tie.Need-lies-in-quarter-requires Inv-loop μ-loop
 lies-in-quarter-requires c κs = let l = c .before .before in (way-room (way l), measured (entered l))
@@ -174,7 +156,7 @@ module _ (c : tie.After-quarter-details Inv-loop μ-loop) where
   ready = way-ready (way (here k)) (above k) (lies k)
 
   -- the details, without bits
-  details-are : c .quarter-details .result ≡ signed-by (sign (s k)) (details (e (s k)) (cell .square))
+  details-are : c .quarter-details .result ≡ details (e (s k)) (cell .square)
   details-are =
       let r = room k in
       way-details (way (here k)) (above k) (lies k)
@@ -182,10 +164,7 @@ module _ (c : tie.After-quarter-details Inv-loop μ-loop) where
       ∙ details-same (width k .is) (back-is tt (r .left)) (back-is tt (r .above)) (held-back tt (across (s k)) .is) (held-back tt (down (s k)) .is))
 
   small : SmallDetails (c .quarter-details .result)
-  small =
-      let d = on-sheet-details (ready .on-sheet) in
-      let t = signed (s k) in
-      subst⁻¹ SmallDetails details-are (record { h = signed-within t (d .h); v = signed-within t (d .v); d = signed-within t (d .d) })
+  small = subst⁻¹ SmallDetails details-are (on-sheet-details (ready .on-sheet))
 
 add-details-requires : tie.Need-add-details-requires Inv-loop μ-loop
 add-details-requires c κs =
@@ -193,7 +172,6 @@ add-details-requires c κs =
       ready-first (ready f) (way-first (way (here (k f))) (above (k f)) (lies (k f)) (c .first-detail .ensures)),
       ready-own (ready f),
       small f,
-      within-self (nonneg 1),
     )
 
 -- from the addition back
@@ -214,7 +192,7 @@ loop-again c =
     let f = done (c .before) in
     let k = going-on (found f) in
     let o = way (here k) in
-    way-step o (above k) (lies k) (signed (s k)) (details-are (found f)) (way-first o (above k) (lies k) (f .first-detail .ensures))
+    way-step o (above k) (lies k) (details-are (found f)) (way-first o (above k) (lies k) (f .first-detail .ensures))
     (c .before .before .add-details .ensures) (c .quarter-stage .ensures)
 
 -- ---- no quarters
@@ -234,9 +212,7 @@ descend-spec =
     Inv-loop
     μ-loop
     sub-across
-    mul-across
     sub-down
-    mul-down
     first-stage-requires
     loop-holds
     lies-in-quarter-requires

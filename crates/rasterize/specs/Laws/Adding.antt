@@ -6,6 +6,8 @@
 --   added-unique                 and no other list of this length has those entries
 --   added-same                   additions that agree at every index of the table are the same
 --   added-added                  two additions are one, of their sum
+--   added-both                   two additions are one, of what both add together
+--   added-none                   where nothing is added, the table stays
 --   added-signed                 two additions with one sign are one, of the sum with that sign
 --   added-undone                 what is added with one sign and then with the other leaves the table
 --   added-nothing                where nothing is added, with whatever sign, the table stays
@@ -54,13 +56,22 @@ added-added t f g = added-unique t (added (added t f) g) (λ i. f i +ℤ g i) (a
         added-entry (added t f) g i (subst (λ (n : ℕ). i < n) (sym (added-length t f)) h)
         ∙ ap (λ z. z +ℤ g i) (added-entry t f i h) ∙ both (getD t i (pos 0)) (f i) (g i)
 
+-- of what both add together
+pub added-both : (t : List ℤ) (f g sum : ℕ → ℤ) → ((i : ℕ) → i < length t → f i +ℤ g i ≡ sum i) → added (added t f) g ≡ added t sum
+added-both t f g sum e = added-added t f g ∙ added-same t (λ i. f i +ℤ g i) sum e
+
+pub added-none : (t : List ℤ) (g : ℕ → ℤ) → ((i : ℕ) → g i ≡ pos 0) → added t g ≡ t
+added-none t g e = sym (added-unique t t g refl (λ i h. plain (getD t i (pos 0)) ∙ ap (λ z. getD t i (pos 0) +ℤ z) (sym (e i))))
+  where
+    plain : (x : ℤ) → x ≡ x +ℤ pos 0
+    plain x = ring (x ∷ []) (search read depth 40) tt
+
 -- ---- with a sign: what is added is multiplied by it
 module _ (t : List ℤ) (sign : ℤ) where
   pub added-signed : (f g sum : ℕ → ℤ) → ((i : ℕ) → i < length t → f i +ℤ g i ≡ sum i)
       → added (added t (λ i. sign *ℤ f i)) (λ i. sign *ℤ g i) ≡ added t (λ i. sign *ℤ sum i)
   added-signed f g sum e =
-      added-added t (λ i. sign *ℤ f i) (λ i. sign *ℤ g i)
-      ∙ added-same t (λ i. sign *ℤ f i +ℤ sign *ℤ g i) (λ i. sign *ℤ sum i)
+      added-both t (λ i. sign *ℤ f i) (λ i. sign *ℤ g i) (λ i. sign *ℤ sum i)
       (λ i h. comb (sign ∷ f i ∷ g i ∷ sum i ∷ []) (sign ⊗ e i h) (search read depth 40) tt)
 
   pub added-undone : (g : ℕ → ℤ) → added (added t (λ i. sign *ℤ g i)) (λ i. (pos 0 -ℤ sign) *ℤ g i) ≡ t
@@ -72,10 +83,7 @@ module _ (t : List ℤ) (sign : ℤ) where
       both x y = ring (x ∷ sign ∷ y ∷ []) (search read depth 40) tt
 
   pub added-nothing : (g : ℕ → ℤ) → ((i : ℕ) → g i ≡ pos 0) → added t (λ i. sign *ℤ g i) ≡ t
-  added-nothing g e = sym (added-unique t t (λ i. sign *ℤ g i) refl (λ i h. plain (getD t i (pos 0)) ∙ ap (λ z. getD t i (pos 0) +ℤ sign *ℤ z) (sym (e i))))
-    where
-      plain : (x : ℤ) → x ≡ x +ℤ sign *ℤ pos 0
-      plain x = ring (x ∷ sign ∷ []) (search read depth 40) tt
+  added-nothing g e = added-none t (λ i. sign *ℤ g i) (λ i. ap (λ z. sign *ℤ z) (e i) ∙ ring (sign ∷ []) (search read depth 40) tt)
 
 -- ---- an empty table
 pub added-zeros : (depth : ℕ) (t : Coefficients dimensions)

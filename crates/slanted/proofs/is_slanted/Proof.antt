@@ -6,10 +6,10 @@ use lib.IntN.{pos}
 use mir.Syntax.{w64}
 use mir.Val.{ofZ}
 use Rattle.edge.specs.declared.Axis.{Axis}
 use Rattle.slanted.specs.Pieces.{Moving, onward, back}
 use Rattle.slanted.specs.Laws.Walks.{moving-walk}
-use Rattle.rasterize.proofs.is_slanted.Statement.{statement}
-use Rattle.rasterize.proofs.is_slanted.Tie as tie
+use Rattle.slanted.proofs.is_slanted.Statement.{statement}
+use Rattle.slanted.proofs.is_slanted.Tie as tie
 
 moves : {a : Axis} → Moving a → not (eqb (ofZ w64 (a .sign)) 0) ≡ true
 moves (onward e) = ap (λ z. not (eqb (ofZ w64 z) 0)) e

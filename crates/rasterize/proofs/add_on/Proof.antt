@@ -1,0 +1,37 @@
+-- The walk, and all of its steps where it is slanted.
+use mathlib.Core.Path.{_∙_, ap, subst⁻¹}
+use borrow.Author.Needs.{needs}
+use Rattle.edge.specs.Nested.{OnCell}
+use Rattle.edge.specs.Room.{Room}
+use Rattle.rasterize.specs.Added.{added}
+use Rattle.rasterize.specs.Contribution.{contribution}
+use Rattle.rasterize.specs.Ready.{Ready}
+use Rattle.rasterize.specs.Laws.OnSheet.{on-sheet-room}
+use Rattle.rasterize.specs.Laws.ReadyCells.{ready-suc}
+use Rattle.rasterize.proofs.add_on.Statement.{statement}
+use Rattle.rasterize.proofs.add_on.Tie as tie
+
+room : (s : tie.Start) → Room (s .args .e) (s .args .c .square)
+room s = on-sheet-room (ready-suc (s .pre .0) (s .pre .1) .on-sheet)
+
+span-on-requires : tie.Need-span-on-requires
+span-on-requires c κs =
+    let s = c .before in
+    let w = c .walk-of .ensures in
+    (w .1, subst⁻¹ (λ e. Room e (s .args .c .square)) (w .0) (room s), subst⁻¹ (OnCell (s .args .c .square)) (w .0) (s .pre .2))
+
+add-walk-requires : tie.Need-add-walk-requires
+add-walk-requires c κs =
+    let n = c .before .before in
+    let s = n .before in
+    let w = n .walk-of .ensures in
+    (s .pre .0, subst⁻¹ (λ e. Ready (s .args .table .now) e (s .args .left) (s .args .c)) (w .0) (s .pre .1), w .1, c .before .span-on .ensures)
+
+returns : tie.Need-returns
+returns c =
+    let n = c .before .before .before .before in
+    let s = n .before in
+    c .before .add-walk .ensures ∙ ap (λ e. added (s .args .table .now) (contribution e (s .args .left) (s .args .c))) (n .walk-of .ensures .0)
+
+pub add-on-spec : {M : Type 1} → statement M
+add-on-spec = tie.close (tie.spec (λ c κs. room c .edge) span-on-requires add-walk-requires (λ c. search needs) returns)
