@@ -3,7 +3,6 @@
 --
 -- Main results
 --   in-quarter                                the details of an edge in one quarter
---   quarter-signed                            those of its differences times a sign are those times that sign
 use mathlib.Core.Path.{_≡_, sym, _∙_, ap, ap₂}
 use mathlib.Core.List.{[], _∷_}
 use Prim.Native.Nat.{ℕ, zero, suc, _<_}
@@ -232,16 +231,3 @@ in-quarter e c {half} m h o =
     let x = ap (λ z. z *ℤ dy e) (sides-is (c .left) (c .width) half (e .x0) (e .x1) m) in
     let y = ap (λ z. negℤ (z *ℤ dx e)) (sides-is (c .top) (c .width) half (e .y0) (e .y1) m) in
     whole e c m h (half-below (leftOf e c)) (half-below (above e c)) o ∙ details-eq x y (ap (turned (halfWith (above e c))) x)
-
--- ---- with a sign
-abbrev pub signed : ℤ → Details → Details
-signed s w = record { h = s *ℤ w .h; v = s *ℤ w .v; d = s *ℤ w .d }
-
-turned-signed : (j : ℕ) (s t z : ℤ) → turned j (t *ℤ (s *ℤ z)) ≡ s *ℤ turned j (t *ℤ z)
-turned-signed zero s t z = ring (s ∷ t ∷ z ∷ []) (search read depth 40) tt
-turned-signed (suc j) s t z = ring (s ∷ t ∷ z ∷ []) (search read depth 40) tt
-
-pub quarter-signed : (w u v s x y : ℤ) → quarterDetails w u v (s *ℤ x) (s *ℤ y) ≡ signed s (quarterDetails w u v x y)
-quarter-signed w u v s x y =
-    details-eq (ring (w ∷ abs u ∷ s ∷ y ∷ []) (search read depth 40) tt) (ring (w ∷ abs v ∷ s ∷ x ∷ []) (search read depth 40) tt)
-    (turned-signed (halfWith v) s (w -ℤ abs u) y)
