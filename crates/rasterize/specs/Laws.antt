@@ -13,6 +13,8 @@ pub mod Contributions
 pub mod ReadyCells
 -- from cell to cell on the way down
 pub mod Stages
+-- a run of edges in one quarter of a cell; and in all the cells above one
+pub mod RunDetails
 -- a slanted walk in a cell and in its quarters
 pub mod SlantedCells
 -- the edges that a tile has in view, alone or on a sheet; and what such an edge adds
