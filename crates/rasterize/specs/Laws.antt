@@ -15,6 +15,7 @@ pub mod ReadyCells
 pub mod Stages
 -- a run of edges in one quarter of a cell; and in all the cells above one
 pub mod RunDetails
+pub mod Runs
 -- a slanted walk in a cell and in its quarters
 pub mod SlantedCells
 -- the edges that a tile has in view, alone or on a sheet; and what such an edge adds

