@@ -5,13 +5,16 @@
 --   ancestor depth K x y j               the cell of level j that cell (x, y) of level K lies in
 --   halfAt K n j                         the half of it, in one direction, that number n of level K lies in
 --   withArea w a i j                     details w, with the area a of something in quarter (i, j)
---   levelPart e a depth K x y j i        what edge e and area a in cell (x, y) of level K add to entry i in the cell of level j above it
+--   partIn e a c u v i                   what edge e and area a, in quarter (u, v) of cell c, add to entry i in that cell
+--   levelPart e a depth K x y j i        the same in the cell of level j above cell (x, y) of level K, in which e and a lie
 --   above e a depth K x y i              and in all the cells above it
+--   widestRun                            how wide a run's cell may be, in steps
 --   triangle s m t                       the area between the edges from s to m and from m to t and the edge from s to t
 --   fromHalf i side w p q                how far p and q, in half i of a range, lie from that half's side of the range, added up
 --   detailsIn e s i j                    the details of an edge in quarter (i, j) of a square
-use Prim.Native.Nat.{ℕ, zero, suc, _-_, _/_, _%_, _^_}
+use Prim.Native.Nat.{ℕ, zero, suc, _*_, _-_, _/_, _%_, _^_}
 use lib.IntN.{ℤ, negℤ, _+ℤ_, _-ℤ_, _*ℤ_}
+use Rattle.integers.specs.Units.{stepsPerPixel}
 use Rattle.integers.specs.HalfSign.{halfSign}
 use Rattle.integers.specs.RangeSum.{Σ<}
 use Rattle.edge.specs.declared.Edge.{Edge}
@@ -39,14 +42,21 @@ halfAt K n j = n / 2 ^ (K - suc j) % 2
 abbrev pub withArea : Details → ℤ → ℕ → ℕ → Details
 withArea w a i j = record { h = w .h +ℤ halfSign i *ℤ a; v = w .v +ℤ halfSign j *ℤ a; d = w .d +ℤ halfSign i *ℤ halfSign j *ℤ a }
 
--- the three details of the cell of level j, at their places in the table
+-- the cell's three details, at their places in the table
+abbrev pub partIn : Edge → ℤ → Node → (u v i : ℕ) → ℤ
+partIn e a c u v i = ownPart (withArea (details e (c .square)) a u v) (firstDetail c) i
+
+-- the quarter is the one that cell (x, y) of level K lies in
 abbrev pub levelPart : Edge → ℤ → (depth K x y j i : ℕ) → ℤ
-levelPart e a depth K x y j i =
-    ownPart (withArea (details e (ancestor depth K x y j .square)) a (halfAt K x j) (halfAt K y j)) (firstDetail (ancestor depth K x y j)) i
+levelPart e a depth K x y j i = partIn e a (ancestor depth K x y j) (halfAt K x j) (halfAt K y j) i
 
 -- all levels above level K
 abbrev pub above : Edge → ℤ → (depth K x y i : ℕ) → ℤ
 above e a depth K x y i = Σ< K (λ j. levelPart e a depth K x y j i)
+
+-- four pixels: in so narrow a cell a run's area and its chord's details are small
+abbrev pub widestRun : ℕ
+widestRun = 4 * stepsPerPixel
 
 -- what a run's area gains when the edge from m to t comes after the chord from s to m
 abbrev pub triangle : Point → Point → Point → ℤ
