@@ -13,14 +13,16 @@ pub mod Contributions
 pub mod ReadyCells
 -- from cell to cell on the way down
 pub mod Stages
--- a run of edges in one quarter of a cell; and in all the cells above one
-pub mod RunDetails
-pub mod Runs
 -- a slanted walk in a cell and in its quarters
 pub mod SlantedCells
 -- the edges that a tile has in view, alone or on a sheet; and what such an edge adds
 pub mod EdgesInView
 pub mod EdgeAdded
+-- a run of edges in one quarter of a cell, and in all the cells above one; what an edge adds there; how large that is
+pub mod RunDetails
+pub mod Runs
+pub mod RunsAdded
+pub mod RunBounds
 -- the tables of several edges add up, and so does the room that they need
 pub mod Sums
 pub mod Fitting
