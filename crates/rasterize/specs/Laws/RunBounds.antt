@@ -2,16 +2,16 @@
 --
 -- Main results
 --   narrow-cell                  the cells of the three deepest levels are narrow
---   triangle-small               a triangle in a cell of width w has an area within twice w², and in a narrow cell within 2^21
---   above-small                  the details of a run in a narrow cell, in the cells above: its area and 2^24
+--   triangle-small               a triangle in a narrow cell has an area within 2^21
+--   part-small                   the details of a run in a narrow cell, in any cell of the tile, are within its area and 2^24
+--   above-small                  so they are in the cells above it
 use mathlib.Core.Path.{_≡_, refl}
 use mathlib.Core.List.{[], _∷_}
-use Prim.Native.Nat.{ℕ, suc, _+_, _*_, _-_, _/_, _%_, _^_, _<_, _≤_}
+use Prim.Native.Nat.{ℕ, _+_, _*_, _-_, _/_, _^_, _<_, _≤_}
 use native.Mathlib.Omega.{arith}
 use native.Mathlib.Nat.{mul-le-mul, mul-le-mul-left}
 use lib.Pow.{pow-mono}
 use lib.IntN.{ℤ, pos, _+ℤ_, _-ℤ_, _*ℤ_}
-use lib.Signed.{_≤ℤ_}
 use Rattle.integers.specs.Units.{stepsPerPixel, greatestDepth, greatestCoordinate}
 use Rattle.integers.specs.Ring.{read, ring}
 use Rattle.integers.specs.Order.{nonneg, pos-≤ℤ}
@@ -26,6 +26,7 @@ use Rattle.edge.specs.Laws.Cells.{difference-on, details-on}
 use Rattle.haar.specs.Plane.{at}
 use Rattle.accuracy.specs.Outline.{Point, edgeBetween}
 use Rattle.accuracy.specs.Tile.{cellWidth, square}
+use Rattle.rasterize.specs.Nodes.{nodeAt}
 use Rattle.rasterize.specs.Runs.{ancestor, halfAt, withArea, widestRun, triangle}
 
 pub narrow-cell : (depth K : ℕ) → depth ≤ K + 2 → cellWidth depth K ≤ widestRun
@@ -62,14 +63,20 @@ area-within {b} {n} {a} {w} d h i j k l = record {
   d = within-add (d .d) (within-is refl (ring (a ∷ pos i ∷ pos j ∷ []) (search read depth 40) tt) (signed-within (signed-within h j l) i k));
 }
 
-pub above-small : {depth : ℕ} {e : Edge} {b : ℕ} {a : ℤ} (K x y : ℕ) → depth ≤ greatestDepth → cellWidth depth K ≤ widestRun
-    → OnCell (square depth K (at x y)) e → Within (pos b) a → (j : ℕ)
-    → DetailsWithin (pos (2 ^ 24 + b)) (withArea (details e (ancestor depth K x y j .square)) a (halfAt K x j) (halfAt K y j))
-above-small {depth} {e} {b} {a} K x y shallow h o small j =
-    area-within (details-on (ancestor depth K x y j .square) o (nonneg (cellWidth depth j)) (pos-≤ℤ most)) small (halfAt K x j) (halfAt K y j) (omega arith) (omega arith)
+pub part-small : {depth : ℕ} {e : Edge} {b : ℕ} {a : ℤ} (K x y : ℕ) → depth ≤ greatestDepth → cellWidth depth K ≤ widestRun
+    → OnCell (square depth K (at x y)) e → Within (pos b) a → (j X Y u v : ℕ) → u < 2 → v < 2
+    → DetailsWithin (pos (2 ^ 24 + b)) (withArea (details e (nodeAt depth j X Y .square)) a u v)
+part-small {depth} K x y shallow h o small j X Y u v k l =
+    area-within (details-on (nodeAt depth j X Y .square) o (nonneg (cellWidth depth j)) (pos-≤ℤ most)) small u v k l
   where
     wide : cellWidth depth j ≤ greatestCoordinate
     wide = mul-le-mul-left stepsPerPixel (pow-mono {i = depth - j} {j = greatestDepth} (omega arith))
 
     most : cellWidth depth K * cellWidth depth j ≤ 2 ^ 24
     most = omega (arith, mul-le-mul h wide)
+
+pub above-small : {depth : ℕ} {e : Edge} {b : ℕ} {a : ℤ} (K x y : ℕ) → depth ≤ greatestDepth → cellWidth depth K ≤ widestRun
+    → OnCell (square depth K (at x y)) e → Within (pos b) a → (j : ℕ)
+    → DetailsWithin (pos (2 ^ 24 + b)) (withArea (details e (ancestor depth K x y j .square)) a (halfAt K x j) (halfAt K y j))
+above-small K x y shallow h o small j =
+    part-small K x y shallow h o small j (x / 2 ^ (K - j)) (y / 2 ^ (K - j)) (halfAt K x j) (halfAt K y j) (omega arith) (omega arith)

@@ -1,36 +1,34 @@
 -- A run of edges in one cell, in the cells above it.
 --
 -- Main results
+--   parent-on, details-parent        an edge in a cell lies in its parent, and its details there are those by numbers
 --   on-ancestor, in-ancestor         what lies in a cell lies in each cell above it, and there in the quarter of `halfAt`
---   parent-on                        what lies in a cell lies in its parent
 --   details-ancestor                 so its details there are those by numbers
 --   above-zero, above-suc            no cells above the tile; above a cell of the next level: its parent, and the cells above that
 --   above-join                       an edge after a run: the new chord, and the run's area with the triangle's
 --   above-none                       a point adds nothing
-use mathlib.Core.Path.{_≡_, refl, sym, _∙_, ap, ap₂, subst, subst⁻¹}
+use mathlib.Core.Path.{_≡_, sym, _∙_, ap, ap₂, subst}
 use mathlib.Core.List.{[], _∷_}
-use Prim.Native.Nat.{ℕ, zero, suc, _+_, _*_, _-_, _/_, _%_, _^_, _<_, _≤_}
+use Prim.Native.Nat.{ℕ, zero, suc, _-_, _/_, _%_, _^_, _<_, _≤_}
 use native.Mathlib.Omega.{arith}
 use native.Mathlib.Nat.{pow-suc, pow-succ', div-one, div-div-eq-div-mul}
-use lib.IntN.{ℤ, pos, negℤ, _+ℤ_, _-ℤ_, _*ℤ_}
-use lib.Signed.{_≤ℤ_}
+use lib.IntN.{ℤ, pos, _+ℤ_}
 use Rattle.integers.specs.Ring.{read, ring, comb}
 use Rattle.integers.specs.Order.{nonneg, ≤ℤ-trans}
 use Rattle.integers.specs.RangeSum.{Σ-zero, Σ-suc, Σ-cong, Σ-add}
 use Rattle.edge.specs.declared.Edge.{Edge}
 use Rattle.edge.specs.declared.Cell.{Cell as Square}
 use Rattle.edge.specs.Rounded.{details, rootTerm}
-use Rattle.edge.specs.Nested.{quarter, Contains, OnRange, OnCell}
+use Rattle.edge.specs.Nested.{quarter, Contains, OnCell}
 use Rattle.edge.specs.Laws.Cells.{contains-quarter}
 use Rattle.haar.specs.Plane.{at}
 use Rattle.accuracy.specs.Outline.{Point, edgeBetween}
 use Rattle.accuracy.specs.Tile.{cellWidth, square}
 use Rattle.accuracy.specs.Laws.Squares.{cellWidth-halves, square-quarter}
-use Rattle.rasterize.specs.declared.Node.{Node}
 use Rattle.rasterize.specs.Nodes.{nodeAt}
 use Rattle.rasterize.specs.Contribution.{firstDetail}
 use Rattle.rasterize.specs.Runs.{ancestor, halfAt, partIn, levelPart, above, triangle, detailsIn}
-use Rattle.rasterize.specs.Laws.RunDetails.{details-in-quarter, on-cell-join, details-join}
+use Rattle.rasterize.specs.Laws.RunDetails.{details-in-quarter, details-join}
 
 -- ---- up the quadtree
 pub div-pow-suc : (x n : ℕ) → x / 2 ^ suc n ≡ x / 2 ^ n / 2
@@ -48,6 +46,13 @@ on-wider {c} {b} {e} k o = record {
 parent-quarter : {e : Edge} {depth : ℕ} (j x y : ℕ) → j < depth → OnCell (square depth (suc j) (at x y)) e
     → OnCell (quarter (square depth j (at (x / 2) (y / 2))) (pos (cellWidth depth (suc j))) (x % 2) (y % 2)) e
 parent-quarter {e} {depth} j x y h o = subst (λ s. OnCell s e) (square-quarter depth j x y h) o
+
+-- an edge in a cell has there the details of that quarter of its parent
+pub details-parent : {e : Edge} {depth : ℕ} (j x y : ℕ) → j < depth → OnCell (square depth (suc j) (at x y)) e
+    → details e (nodeAt depth j (x / 2) (y / 2) .square) ≡ detailsIn e (nodeAt depth j (x / 2) (y / 2) .square) (x % 2) (y % 2)
+details-parent {e} {depth} j x y h o =
+    details-in-quarter e (nodeAt depth j (x / 2) (y / 2) .square) (x % 2) (y % 2) (omega arith) (omega arith) (cellWidth-halves depth j h)
+    (nonneg (cellWidth depth (suc j))) (parent-quarter j x y h o)
 
 pub parent-on : {e : Edge} {depth : ℕ} (j x y : ℕ) → j < depth → OnCell (square depth (suc j) (at x y)) e → OnCell (square depth j (at (x / 2) (y / 2))) e
 parent-on {e} {depth} j x y h o =

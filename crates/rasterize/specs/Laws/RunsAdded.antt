@@ -4,12 +4,12 @@
 --   cell-on-sheet                an edge in a cell of the tile is on the tile, and so on one sheet with it
 --   on-sheet-at                  an edge on one sheet with the tile is so with each cell of the tile
 --   contribution-above           what an edge adds in the tile, from the cell that it lies in
-use mathlib.Core.Path.{_≡_, refl, sym, _∙_, ap, ap₂, subst, subst⁻¹}
+use mathlib.Core.Path.{_≡_, sym, _∙_, ap, ap₂, subst, subst⁻¹}
 use mathlib.Core.List.{[], _∷_}
 use Prim.Native.Nat.{ℕ, zero, suc, _+_, _*_, _-_, _/_, _%_, _^_, _<_, _≤_}
 use native.Mathlib.Omega.{arith}
 use native.Mathlib.Nat.{pow-suc, div-eq-of-lt}
-use lib.IntN.{ℤ, pos, _+ℤ_, _*ℤ_}
+use lib.IntN.{ℤ, pos, _+ℤ_}
 use lib.Signed.{_≤ℤ_}
 use Rattle.integers.specs.Units.{greatestDepth}
 use Rattle.integers.specs.Ring.{read, ring, comb, _⊕_}
@@ -23,7 +23,7 @@ use Rattle.haar.specs.Plane.{at}
 use Rattle.accuracy.specs.Tile.{square, tile, EdgeOnTile, CellOf}
 use Rattle.accuracy.specs.Laws.Squares.{square-tile}
 use Rattle.rasterize.specs.declared.Node.{Node}
-use Rattle.rasterize.specs.Nodes.{quarters, quarterNode, nodeAt}
+use Rattle.rasterize.specs.Nodes.{quarterNode, nodeAt}
 use Rattle.rasterize.specs.Contribution.{firstDetail, ownPart, contribution}
 use Rattle.rasterize.specs.Ready.{OnSheet}
 use Rattle.rasterize.specs.Runs.{withArea, partIn, above}
