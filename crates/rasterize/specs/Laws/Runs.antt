@@ -31,7 +31,7 @@ use Rattle.rasterize.specs.Runs.{ancestor, halfAt, partIn, levelPart, ab
 use Rattle.rasterize.specs.Laws.RunDetails.{details-in-quarter, details-join}
 
 -- ---- up the quadtree
-pub div-pow-suc : (x n : ℕ) → x / 2 ^ suc n ≡ x / 2 ^ n / 2
+div-pow-suc : (x n : ℕ) → x / 2 ^ suc n ≡ x / 2 ^ n / 2
 div-pow-suc x n = ap (λ m. x / m) (pow-suc 2 n) ∙ sym (div-div-eq-div-mul x (2 ^ n) 2)
 
 on-wider : {c b : Square} {e : Edge} → Contains c b → OnCell b e → OnCell c e
@@ -47,7 +47,6 @@ parent-quarter : {e : Edge} {depth : ℕ} (j x y : ℕ) → j < depth → OnCell
     → OnCell (quarter (square depth j (at (x / 2) (y / 2))) (pos (cellWidth depth (suc j))) (x % 2) (y % 2)) e
 parent-quarter {e} {depth} j x y h o = subst (λ s. OnCell s e) (square-quarter depth j x y h) o
 
--- an edge in a cell has there the details of that quarter of its parent
 pub details-parent : {e : Edge} {depth : ℕ} (j x y : ℕ) → j < depth → OnCell (square depth (suc j) (at x y)) e
     → details e (nodeAt depth j (x / 2) (y / 2) .square) ≡ detailsIn e (nodeAt depth j (x / 2) (y / 2) .square) (x % 2) (y % 2)
 details-parent {e} {depth} j x y h o =

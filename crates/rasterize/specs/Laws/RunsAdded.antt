@@ -69,6 +69,12 @@ in-parent depth K x y h =
     let down : 2 * (y / 2) + inParent x y / 2 ≡ y = omega arith in
     quarterNode-at depth K (x / 2) (y / 2) (inParent x y) h (omega arith) ∙ ap₂ (nodeAt depth (suc K)) across down
 
+-- ---- from the tile down
+-- no area
+with-none : (w : Details) (u v : ℕ) → withArea w (pos 0) u v ≡ w
+with-none w u v = details-eq (ring (w .h ∷ pos u ∷ []) (search read depth 40) tt) (ring (w .v ∷ pos v ∷ []) (search read depth 40) tt)
+    (ring (w .d ∷ pos u ∷ pos v ∷ []) (search read depth 40) tt)
+
 module _ {depth : ℕ} {e : Edge} (on : OnSheet e depth (nodeAt depth 0 0 0 .square)) where
   pub on-sheet-at : (K x y : ℕ) → CellOf depth K x y → OnSheet e (depth - K) (nodeAt depth K x y .square)
   on-sheet-at zero x y c =
@@ -81,11 +87,6 @@ module _ {depth : ℕ} {e : Edge} (on : OnSheet e depth (nodeAt depth 0 0 0 .squ
       let parent = nodeAt depth K (x / 2) (y / 2) in
       subst (λ (n : Node). OnSheet e (depth - suc K) (n .square)) (in-parent depth K x y (omega (arith, c .level-to-depth)))
       (quarter-on-sheet parent (inParent x y) (omega arith) (subst (λ n. OnSheet e n (parent .square)) more (on-sheet-at K (x / 2) (y / 2) (parent-of c))))
-
-  -- no area
-  with-none : (w : Details) (u v : ℕ) → withArea w (pos 0) u v ≡ w
-  with-none w u v = details-eq (ring (w .h ∷ pos u ∷ []) (search read depth 40) tt) (ring (w .v ∷ pos v ∷ []) (search read depth 40) tt)
-      (ring (w .d ∷ pos u ∷ pos v ∷ []) (search read depth 40) tt)
 
   -- from a cell's parent to the cell
   step : (K x y : ℕ) → CellOf depth (suc K) x y → OnCell (square depth (suc K) (at x y)) e → (i : ℕ)
