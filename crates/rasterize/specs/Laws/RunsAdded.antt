@@ -4,6 +4,7 @@
 --   cell-on-sheet                an edge in a cell of the tile is on the tile, and so on one sheet with it
 --   on-sheet-at                  an edge on one sheet with the tile is so with each cell of the tile
 --   contribution-above           what an edge adds in the tile, from the cell that it lies in
+--   contribution-join            the same after a run in that cell: above it the edge joins the run
 use mathlib.Core.Path.{_≡_, sym, _∙_, ap, ap₂, subst, subst⁻¹}
 use mathlib.Core.List.{[], _∷_}
 use Prim.Native.Nat.{ℕ, zero, suc, _+_, _*_, _-_, _/_, _%_, _^_, _<_, _≤_}
@@ -20,18 +21,19 @@ use Rattle.edge.specs.Rounded.{details}
 use Rattle.edge.specs.Nested.{OnRange, OnCell}
 use Rattle.edge.specs.Lemmas.Records.{details-eq}
 use Rattle.haar.specs.Plane.{at}
+use Rattle.accuracy.specs.Outline.{Point, edgeBetween}
 use Rattle.accuracy.specs.Tile.{square, tile, EdgeOnTile, CellOf}
 use Rattle.accuracy.specs.Laws.Squares.{square-tile}
 use Rattle.rasterize.specs.declared.Node.{Node}
 use Rattle.rasterize.specs.Nodes.{quarterNode, nodeAt}
 use Rattle.rasterize.specs.Contribution.{firstDetail, ownPart, contribution}
 use Rattle.rasterize.specs.Ready.{OnSheet}
-use Rattle.rasterize.specs.Runs.{withArea, partIn, above}
+use Rattle.rasterize.specs.Runs.{withArea, partIn, above, triangle}
 use Rattle.rasterize.specs.Laws.Nodes.{quarterNode-at}
 use Rattle.rasterize.specs.Laws.OnSheet.{quarter-on-sheet}
 use Rattle.rasterize.specs.Laws.Contributions.{contribution-quarter}
 use Rattle.rasterize.specs.Laws.EdgesInView.{in-view-alone}
-use Rattle.rasterize.specs.Laws.Runs.{on-ancestor, parent-on, above-zero, above-suc}
+use Rattle.rasterize.specs.Laws.Runs.{on-ancestor, parent-on, above-zero, above-suc, above-join}
 
 -- ---- on the tile
 from-zero : {p w : ℤ} → OnRange (pos 0) w p → p ≤ℤ w
@@ -117,3 +119,13 @@ module _ {depth : ℕ} {e : Edge} (on : OnSheet e depth (nodeAt depth 0 0 0 .squ
       ∷ contribution e (depth - K) parent i ∷ partIn e (pos 0) parent (x % 2) (y % 2) i ∷ contribution e (depth - suc K) (nodeAt depth (suc K) x y) i ∷ [])
       (contribution-above K (x / 2) (y / 2) (parent-of c) (parent-on K x y (omega (arith, c .level-to-depth)) o) i ⊕ step K x y c o i
       ⊕ sym (above-suc e (pos 0) depth K x y i)) (search read depth 40) tt
+
+-- ---- a run's next edge: above the cell it joins the run, and the rest is what it adds in the cell and below it
+pub contribution-join : {depth : ℕ} (K x y : ℕ) → CellOf depth K x y → {s m t : Point} (a : ℤ) → OnSheet (edgeBetween m t) depth (nodeAt depth 0 0 0 .square)
+    → OnCell (square depth K (at x y)) (edgeBetween s m) → OnCell (square depth K (at x y)) (edgeBetween m t) → (i : ℕ)
+    → above (edgeBetween s m) a depth K x y i +ℤ contribution (edgeBetween m t) depth (nodeAt depth 0 0 0) i
+    ≡ above (edgeBetween s t) (a +ℤ triangle s m t) depth K x y i +ℤ contribution (edgeBetween m t) (depth - K) (nodeAt depth K x y) i
+contribution-join {depth} K x y c {s} {m} {t} a on o p i =
+    comb (above (edgeBetween s m) a depth K x y i ∷ above (edgeBetween m t) (pos 0) depth K x y i ∷ contribution (edgeBetween m t) depth (nodeAt depth 0 0 0) i
+    ∷ above (edgeBetween s t) (a +ℤ triangle s m t) depth K x y i ∷ contribution (edgeBetween m t) (depth - K) (nodeAt depth K x y) i ∷ [])
+    (contribution-above on K x y c p i ⊕ above-join K x y (c .level-to-depth) a o p i) (search read depth 40) tt
