@@ -12,6 +12,8 @@ pub mod Contour
 pub mod Ready
 -- a cell on the way down to the smallest one that an edge lies in
 pub mod Stages
+-- a run of edges in one cell, in the cells above it
+pub mod Runs
 -- a slanted walk from cell to cell
 pub mod Slanted
 -- a tile alone or on a sheet: how it has the edges, and what an edge adds then
