@@ -1,7 +1,7 @@
 -- The way down to the smallest cell that the edge lies in.
 --
 -- Main results
---   descent-start, descent-step          at the tile; from a cell to the quarter that the edge lies in
+--   descent-start, descent-step          at the first cell; from a cell to the quarter that the edge lies in
 --   descent-ready, descent-rest          what adding a cell's own details asks for, and what the recursion does
 --   descent-length                       the table is as long as it was
 --   OnWay, way-start, way-step           the same as the loop has it, by stages
@@ -29,7 +29,7 @@ use Rattle.haar.specs.Plane.{dimensions, hDetail, at}
 use Rattle.accuracy.specs.Tile.{tile}
 use Rattle.accuracy.specs.Laws.Squares.{square-tile}
 use Rattle.rasterize.specs.declared.Stage.{Stage}
-use Rattle.rasterize.specs.Stages.{stageAt, quarterStage, stageNode, StageRoom}
+use Rattle.rasterize.specs.Stages.{stageAt, quarterStage, stageNode, StageRoom, StageOf}
 use Rattle.rasterize.specs.declared.Node.{Node}
 use Rattle.rasterize.specs.Added.{added}
 use Rattle.rasterize.specs.Nodes.{quarters, halfWidth, quarterNode, nodeAt}
@@ -44,15 +44,8 @@ use Rattle.rasterize.specs.Laws.Contributions.{contribution-zero, contri
 use Rattle.rasterize.specs.Laws.ReadyCells.{ready-suc, ready-quarter}
 use Rattle.rasterize.proofs.QuarterLoop.{OwnAdded, own-added, own-length, own-spare}
 
-pub descent-start : {e : Edge} {depth : ℕ} {before : List ℤ} {c : Node} → Ready before e depth (nodeAt depth 0 0 0) → OnCell (tile depth) e
-    → c ≡ nodeAt depth 0 0 0 → Descent e depth before c before
-descent-start {e} {depth} {before} r o k = subst⁻¹ (λ c. Descent e depth before c before) k (record {
-  left = depth;
-  levels = omega arith;
-  ready = r;
-  on = subst⁻¹ (λ s. OnCell s e) (square-tile depth) o;
-  rest = refl;
-})
+pub descent-start : {e : Edge} {all : ℕ} {before : List ℤ} {start : Node} → Ready before e all start → OnCell (start .square) e → Descent e start all before start before
+descent-start {all = all} r o = record { left = all; levels = refl; ready = r; on = o; rest = refl }
 
 -- quarter x + 2 y is the one in half x from the left and in half y from the top
 numbered-on : {e : Edge} (c : Node) (x y : ℕ) → x < 2 → OnCell (quarter (c .square) (halfWidth (c .square)) x y) e → OnCell (quarterNode c (x + 2 * y) .square) e
@@ -62,44 +55,44 @@ numbered-on {e} c x y h o =
     subst (λ b. OnCell (quarter (c .square) (halfWidth (c .square)) ((x + 2 * y) % 2) b) e) row
     (subst (λ a. OnCell (quarter (c .square) (halfWidth (c .square)) a y) e) column o)
 
-module _ {e : Edge} {depth : ℕ} {before : List ℤ} {c : Node} {table : List ℤ} (d : Descent e depth before c table) where
+module _ {e : Edge} {start : Node} {all : ℕ} {before : List ℤ} {c : Node} {table : List ℤ} (d : Descent e start all before c table) where
   pub descent-length : length table ≡ length before
   descent-length =
       sym (added-length table (contribution e (d .left) c)) ∙ ap length (d .rest)
-      ∙ added-length before (contribution e depth (nodeAt depth 0 0 0))
+      ∙ added-length before (contribution e all start)
 
-  -- what the recursion asks for there
-  pub descent-rest : Ready table e (depth - c .level) c
-  descent-rest = let all : d .left ≡ depth - c .level = omega (arith, d .levels) in subst (λ n. Ready table e n c) all (d .ready)
+  -- what the recursion asks for there; `depth` is the level below the last
+  module _ {depth : ℕ} (bottom : depth ≡ start .level + all) where
+    pub descent-rest : Ready table e (depth - c .level) c
+    descent-rest = let same : d .left ≡ depth - c .level = omega (arith, d .levels, bottom) in subst (λ n. Ready table e n c) same (d .ready)
 
-  -- the recursion adds the rest
-  pub descent-end : {after : List ℤ} {left : ℕ} → left ≡ depth - c .level → after ≡ added table (contribution e left c)
-      → after ≡ added before (contribution e depth (nodeAt depth 0 0 0))
-  descent-end {after} {left} k a =
-      let all : left ≡ d .left = omega (arith, k, d .levels) in
-      a ∙ ap (λ n. added table (contribution e n c)) all ∙ d .rest
+    -- the recursion adds the rest
+    pub descent-end : {after : List ℤ} {left : ℕ} → left ≡ depth - c .level → after ≡ added table (contribution e left c) → after ≡ added before (contribution e all start)
+    descent-end {after} {left} k a =
+        let same : left ≡ d .left = omega (arith, k, d .levels, bottom) in
+        a ∙ ap (λ n. added table (contribution e n c)) same ∙ d .rest
 
-  -- there is no rest
-  pub descent-last : depth ≤ c .level → table ≡ added before (contribution e depth (nodeAt depth 0 0 0))
-  descent-last h =
-      let none : 0 ≡ depth - c .level = omega arith in
-      descent-end none (sym (added-none table (contribution e 0 c) (contribution-zero e c)))
+    -- there is no rest
+    pub descent-last : depth ≤ c .level → table ≡ added before (contribution e all start)
+    descent-last h =
+        let none : 0 ≡ depth - c .level = omega arith in
+        descent-end none (sym (added-none table (contribution e 0 c) (contribution-zero e c)))
 
   -- ---- a cell that has quarters
-  module _ (h : c .level < depth) where
+  module _ (h : c .level < start .level + all) where
     abbrev pub below : ℕ
     below = d .left - 1
 
-    all : suc below ≡ d .left
-    all = omega (arith, d .levels, h)
+    whole : suc below ≡ d .left
+    whole = omega (arith, d .levels, h)
 
     pub descent-ready : Ready table e (suc below) c
     descent-ready = ready-suc (omega (arith, d .levels, h)) (d .ready)
 
     pub descent-step : {q : ℕ} {w : Details} {first : ℕ} {after : List ℤ} {next : Node} → q < quarters → OnCell (quarterNode c q .square) e
         → w ≡ details e (c .square) → first ≡ firstDetail c → after ≡ added table (ownPart w first) → next ≡ quarterNode c q
-        → Descent e depth before next after
-    descent-step {q} {w} {first} {after} l o i j k n = subst⁻¹ (λ c. Descent e depth before c after) n (record {
+        → Descent e start all before next after
+    descent-step {q} {w} {first} {after} l o i j k n = subst⁻¹ (λ c. Descent e start all before c after) n (record {
       left = below;
       levels = omega (arith, d .levels, h);
       ready = ready-quarter descent-ready q l (own-length own) (spare-le (omega arith) (own-spare descent-ready own));
@@ -107,52 +100,46 @@ module _ {e : Edge} {depth : ℕ} {before : List ℤ} {c : Node} {table : List �
       rest = ap (λ t. added t (contribution e below (quarterNode c q))) (own .sum)
           ∙ added-both table (λ i. ownPart (details e (c .square)) (firstDetail c) i) (contribution e below (quarterNode c q)) (contribution e (suc below) c)
           (λ i m. sym (contribution-quarter below c q l (descent-ready .on-sheet) o i))
-          ∙ ap (λ n. added table (contribution e n c)) all ∙ d .rest;
+          ∙ ap (λ n. added table (contribution e n c)) whole ∙ d .rest;
     })
       where
         own : OwnAdded e c table after
         own = own-added i j k
 
 -- ---- as the loop has it: the cell by its stage
-pub record OnWay (e : Edge) (depth : ℕ) (before : List ℤ) (p : Stage) (table : List ℤ) : Type 0 where
+pub record OnWay (e : Edge) (start : Node) (all : ℕ) (before : List ℤ) (p : Stage) (table : List ℤ) : Type 0 where
   pub cell : Node
-  pub of-tile : cell ≡ nodeAt depth (cell .level) (cell .x) (cell .y)
-  pub is : p ≡ stageAt e cell
-  pub descent : Descent e depth before cell table
+  pub stage : StageOf e (start .level + all) p cell
+  pub descent : Descent e start all before cell table
 
-pub way-start : {e : Edge} {depth : ℕ} {before : List ℤ} {p : Stage} → Ready before e depth (nodeAt depth 0 0 0) → OnCell (tile depth) e
-    → p ≡ stageAt e (nodeAt depth 0 0 0) → OnWay e depth before p before
-way-start {e} {depth} r o k = record {
-  cell = nodeAt depth 0 0 0;
-  of-tile = refl;
-  is = k;
-  descent = descent-start r o refl;
-}
+pub way-start : {e : Edge} {all : ℕ} {before : List ℤ} {p : Stage} {start : Node} → Ready before e all start → StageOf e (start .level + all) p start
+    → OnWay e start all before p before
+way-start {start = start} r o = record { cell = start; stage = o; descent = descent-start r (o .on) }
 
-module _ {e : Edge} {depth : ℕ} {before : List ℤ} {p : Stage} {table : List ℤ} (o : OnWay e depth before p table) where
+module _ {e : Edge} {start : Node} {all : ℕ} {before : List ℤ} {p : Stage} {table : List ℤ} (o : OnWay e start all before p table) where
   pub way-room : StageRoom p
-  way-room = subst⁻¹ StageRoom (o .is) (stage-room (o .descent .ready) (o .descent .on))
+  way-room = subst⁻¹ StageRoom (o .stage .is) (stage-room (o .descent .ready) (o .descent .on))
 
-  pub way-node : {c : Node} → c ≡ stageNode p → Descent e depth before c table
-  way-node k = subst⁻¹ (λ c. Descent e depth before c table) (k ∙ ap stageNode (o .is) ∙ stage-node e depth (o .of-tile)) (o .descent)
+  pub way-node : {c : Node} → c ≡ stageNode p → Descent e start all before c table
+  way-node k = subst⁻¹ (λ c. Descent e start all before c table) (k ∙ ap stageNode (o .stage .is) ∙ stage-node e (start .level + all) (o .stage .of-tile)) (o .descent)
 
   -- ---- a cell that has quarters, in one of which the edge lies
-  module _ (h : p .level < depth) (l : (abs (dx e) ≤ℤ abs (p .left)) × (abs (dy e) ≤ℤ abs (p .above))) where
+  module _ (h : p .level < start .level + all) (l : (abs (dx e) ≤ℤ abs (p .left)) × (abs (dy e) ≤ℤ abs (p .above))) where
     abbrev c : Node
     c = o .cell
 
     abbrev q : ℕ
     q = quarterWith (stageAt e c)
 
-    pub deeper : c .level < depth
-    deeper = subst (λ (p : Stage). p .level < depth) (o .is) h
+    pub deeper : c .level < start .level + all
+    deeper = subst (λ (p : Stage). p .level < start .level + all) (o .stage .is) h
 
     pub way-ready : Ready table e (suc (below (o .descent) deeper)) c
     way-ready = descent-ready (o .descent) deeper
 
     in-quarters : OnCell (quarter (c .square) (halfWidth (c .square)) (halfWith (stageAt e c .left)) (halfWith (stageAt e c .above))) e
     in-quarters =
-        let k = subst (λ (p : Stage). (abs (dx e) ≤ℤ abs (p .left)) × (abs (dy e) ≤ℤ abs (p .above))) (o .is) l in
+        let k = subst (λ (p : Stage). (abs (dx e) ≤ℤ abs (p .left)) × (abs (dy e) ≤ℤ abs (p .above))) (o .stage .is) l in
         quarter-on (c .square) (halfWidth (c .square)) (twice (way-ready .on-sheet)) (o .descent .on) (k .0) (k .1)
 
     few : q < quarters
@@ -166,19 +153,22 @@ module _ {e : Edge} {depth : ℕ} {before : List ℤ} {p : Stage} {table : List 
         let s = c .square in
         let k = way-ready .on-sheet .halves in
         let width : pos (natAbs (s .width)) ≡ s .width = ap (λ z. pos (natAbs z)) k ∙ sym k in
-        i ∙ ap (λ (p : Stage). quarterDetails (pos (p .width)) (p .left) (p .above) (dx e) (dy e)) (o .is)
+        i ∙ ap (λ (p : Stage). quarterDetails (pos (p .width)) (p .left) (p .above) (dx e) (dy e)) (o .stage .is)
         ∙ ap (λ z. quarterDetails z (stageAt e c .left) (stageAt e c .above) (dx e) (dy e)) width
         ∙ sym (in-quarter e s (twice (way-ready .on-sheet)) (half≥0 (way-ready .on-sheet)) in-quarters)
 
     pub way-first : {first : ℕ} → first ≡ index dimensions (p .level) (at (p .x) (p .y)) hDetail → first ≡ firstDetail c
-    way-first j = j ∙ ap (λ (p : Stage). index dimensions (p .level) (at (p .x) (p .y)) hDetail) (o .is)
+    way-first j = j ∙ ap (λ (p : Stage). index dimensions (p .level) (at (p .x) (p .y)) hDetail) (o .stage .is)
 
     pub way-step : {w : Details} {first : ℕ} {after : List ℤ} {next : Stage} → w ≡ details e (c .square) → first ≡ firstDetail c
-        → after ≡ added table (ownPart w first) → next ≡ quarterStage p → OnWay e depth before next after
+        → after ≡ added table (ownPart w first) → next ≡ quarterStage p → OnWay e start all before next after
     way-step {w} {first} {after} i j k n = record {
       cell = quarterNode c q;
-      of-tile = ap (λ c. quarterNode c q) (o .of-tile) ∙ quarterNode-at depth (c .level) (c .x) (c .y) q deeper few;
-      is = n ∙ ap quarterStage (o .is) ∙ stage-quarter c (way-ready .on-sheet);
+      stage = record {
+        of-tile = ap (λ c. quarterNode c q) (o .stage .of-tile) ∙ quarterNode-at (start .level + all) (c .level) (c .x) (c .y) q deeper few;
+        is = n ∙ ap quarterStage (o .stage .is) ∙ stage-quarter c (way-ready .on-sheet);
+        on = on-quarter;
+      };
       descent = descent-step (o .descent) deeper few on-quarter i j k refl;
     }
       where

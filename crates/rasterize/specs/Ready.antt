@@ -10,7 +10,8 @@
 --   Splits c                     a cell that has quarters
 --   Fits t depth n               a table of a tile of side 2^depth, with room for n more edges
 --   squareOf w                   a square at the origin
---   Descent e depth t c u        table t has become u: adding to u what the edge adds in cell c and below it gives what adding the whole edge to t would
+--   Descent e s all t c u        table t has become u: adding to u what the edge adds in cell c and below it gives what adding to t what it adds in cell s
+--                                and below it, `all` levels, would
 use mathlib.Core.Path.{_≡_}
 use mathlib.Core.List.{List}
 use Prim.Native.Nat.{ℕ, zero, suc, _+_, _*_, _^_, _<_, _≤_}
@@ -88,11 +89,11 @@ pub record Fits (t : List ℤ) (depth n : ℕ) : Type 0 where
 abbrev pub squareOf : ℤ → Square
 squareOf w = record { left = pos 0; top = pos 0; width = w }
 
--- On the way down to the smallest cell that the edge lies in: what cell c and those below it are still to add is the rest. `before` is the table as it
--- was, without the edge's details.
-pub record Descent (e : Edge) (depth : ℕ) (before : List ℤ) (c : Node) (table : List ℤ) : Type 0 where
+-- On the way down from a cell, `start`, to the smallest one that the edge lies in: what cell c and those below it are still to add is the rest. `before` is
+-- the table as it was, without the edge's details.
+pub record Descent (e : Edge) (start : Node) (all : ℕ) (before : List ℤ) (c : Node) (table : List ℤ) : Type 0 where
   pub left : ℕ
-  pub levels : c .level + left ≡ depth
+  pub levels : c .level + left ≡ start .level + all
   pub ready : Ready table e left c
   pub on : OnCell (c .square) e
-  pub rest : added table (contribution e left c) ≡ added before (contribution e depth (nodeAt depth 0 0 0))
+  pub rest : added table (contribution e left c) ≡ added before (contribution e all start)

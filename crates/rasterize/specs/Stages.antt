@@ -5,15 +5,19 @@
 --   quarterStage p               the quarter that the edge lies in
 --   stageNode p                  the cell, with its square
 --   StageRoom p                  its numbers are small
-use Prim.Native.Nat.{suc, _+_, _*_, _/_, _^_, _<_, _≤_}
+--   StageOf e depth p c          stage p is that of cell c of the tile, and the edge lies on the cell
+use mathlib.Core.Path.{_≡_}
+use Prim.Native.Nat.{ℕ, suc, _+_, _*_, _/_, _^_, _<_, _≤_}
 use lib.IntN.{pos, natAbs, _*ℤ_}
 use Rattle.integers.specs.Units.{greatestDepth}
 use Rattle.integers.specs.Within.{Within}
 use Rattle.edge.specs.declared.Edge.{Edge}
 use Rattle.edge.specs.Room.{coordinateLimit, extentLimit}
+use Rattle.edge.specs.Nested.{OnCell}
 use Rattle.edge.specs.Code.{beforeMiddle, halfWith, beforeHalf}
 use Rattle.rasterize.specs.declared.Node.{Node}
 use Rattle.rasterize.specs.declared.Stage.{Stage}
+use Rattle.rasterize.specs.Nodes.{nodeAt}
 
 abbrev pub stageAt : Edge → Node → Stage
 stageAt e c = record {
@@ -51,3 +55,8 @@ pub record StageRoom (p : Stage) : Type 0 where
   pub wide : p .width ≤ coordinateLimit
   pub left : Within (pos extentLimit) (p .left)
   pub above : Within (pos extentLimit) (p .above)
+
+pub record StageOf (e : Edge) (depth : ℕ) (p : Stage) (c : Node) : Type 0 where
+  pub of-tile : c ≡ nodeAt depth (c .level) (c .x) (c .y)
+  pub is : p ≡ stageAt e c
+  pub on : OnCell (c .square) e

@@ -40,7 +40,7 @@ ghost use Rattle.rasterize.specs.Nodes.{quarters, quarterNode, nodeAt};
 ghost use Rattle.rasterize.specs.Contribution.{ownPart, contribution};
 ghost use Rattle.rasterize.specs.Contour.{edgeOf};
 ghost use Rattle.rasterize.specs.Ready.{sumLimit, Spare, Ready, Splits, SmallDetails, squareOf, Descent, Fits};
-ghost use Rattle.rasterize.specs.Stages.{stageAt, quarterStage, stageNode, StageRoom};
+ghost use Rattle.rasterize.specs.Stages.{stageAt, quarterStage, stageNode, StageRoom, StageOf};
 ghost use Rattle.rasterize.specs.Views.{seenBy, rootPart, partTable, viewTable, InView, Seen, seenTable, turnedBy};
 ghost use Rattle.slanted.specs.Parts.{halfOn};
 ghost use Rattle.rasterize.specs.Slanted.{slope, piece, spot, quarterOnWay, quarterSpot, SlantedReady, SlantedAdds};
@@ -382,16 +382,16 @@ fn stage_node(p: Stage) -> Node
     }
 }
 
-// Adds an edge on the tile to each cell in one quarter of which it lies, from the whole tile down. Its details there are whole numbers, and no part of it
-// lies inside the other three quarters. Answers the cell at which this ends: the smallest in which the edge lies, or one that has no quarters. (That the
-// way goes so far is to be seen in the loop; the contract says what has been added.)
-fn descend(table: &mut [i64], e: Edge, depth: usize) -> Node
-    requires { ⌜ Ready (now table) e depth (nodeAt depth 0 0 0) × OnCell (tileSquare depth) e ⌝ }
-    ensures { λ c. ⌜ Descent e depth (now (table .entry)) c (now (table .exit)) ⌝ }
+// Adds an edge on a cell to each cell in one quarter of which it lies, from this one down. Its details there are whole numbers, and no part of it lies inside
+// the other three quarters. Answers the cell at which this ends: the smallest in which the edge lies, or one that has no quarters. (That the way goes so far
+// is to be seen in the loop; the contract says what has been added.)
+fn descend(table: &mut [i64], e: Edge, start: Stage, depth: usize) -> Node
+    requires { ⌜ (start .level ≤ depth) × Ready (now table) e (depth - start .level) (stageNode start) × StageOf e depth start (stageNode start) ⌝ }
+    ensures { λ c. ⌜ Descent e (stageNode start) (depth - start .level) (now (table .entry)) c (now (table .exit)) ⌝ }
 {
     let across = e.x1 - e.x0;
     let down = e.y1 - e.y0;
-    let mut p = first_stage(e, depth);
+    let mut p = start;
     while p.level < depth {
         if !lies_in_quarter(p, e) {
             return stage_node(p);
@@ -462,12 +462,12 @@ fn add_across(table: &mut [i64], e: Edge, c: Node, left: usize)
     add_walk(table, walk, c, span, left);
 }
 
-// Adds the details of an edge on the tile: first on the way down, and where that ends, from the cell there on.
-fn add_down(table: &mut [i64], e: Edge, depth: usize)
-    requires { ⌜ Ready (now table) e depth (nodeAt depth 0 0 0) × OnCell (tileSquare depth) e ⌝ }
-    ensures { λ _. ⌜ now (table .exit) ≡ added (now (table .entry)) (contribution e depth (nodeAt depth 0 0 0)) ⌝ }
+// Adds what an edge on a cell adds there and below: first on the way down, and where that ends, from the cell there on.
+fn add_from(table: &mut [i64], e: Edge, start: Stage, depth: usize)
+    requires { ⌜ (start .level ≤ depth) × Ready (now table) e (depth - start .level) (stageNode start) × StageOf e depth start (stageNode start) ⌝ }
+    ensures { λ _. ⌜ now (table .exit) ≡ added (now (table .entry)) (contribution e (depth - start .level) (stageNode start)) ⌝ }
 {
-    let c = descend(table, e, depth);
+    let c = descend(table, e, start, depth);
     if c.level < depth {
         add_on(table, e, c, depth - c.level);
     }
@@ -480,7 +480,7 @@ fn add_seen(table: &mut [i64], e: Edge, depth: usize)
 {
     let tile = tile_of(depth);
     if lies_on(e, tile.square.width) {
-        add_down(table, e, depth);
+        add_from(table, e, first_stage(e, depth), depth);
     } else if 0 < depth {
         add_across(table, e, tile, depth);
     }

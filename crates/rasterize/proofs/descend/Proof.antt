@@ -1,6 +1,6 @@
 -- From cell to cell, as long as the edge lies in one quarter.
-use mathlib.Core.Path.{_≡_, refl, _∙_, ap, ap₂, subst⁻¹}
-use Prim.Native.Nat.{suc, _*_, _-_, _<_}
+use mathlib.Core.Path.{_≡_, _∙_, ap, ap₂, subst, subst⁻¹}
+use Prim.Native.Nat.{suc, _+_, _-_, _<_}
 use native.Mathlib.Omega.{arith}
 use lib.IntN.{ℤ, pos, _-ℤ_}
 use lib.Signed.{_≤ℤ_}
@@ -21,7 +21,7 @@ use Rattle.edge.specs.Code.{quarterDetails}
 use Rattle.rasterize.specs.declared.Node.{Node}
 use Rattle.rasterize.specs.declared.Stage.{Stage}
 use Rattle.rasterize.specs.Ready.{SmallDetails, Ready, Descent}
-use Rattle.rasterize.specs.Stages.{stageNode, StageRoom}
+use Rattle.rasterize.specs.Stages.{stageNode, StageRoom, StageOf}
 use Rattle.rasterize.specs.Laws.OnSheet.{on-sheet-details}
 use Rattle.rasterize.specs.Laws.ReadyCells.{ready-own, ready-first}
 use Rattle.rasterize.proofs.Descending.{descent-length, below, OnWay, way-start, way-room, way-node, deeper, way-ready, way-details, way-first, way-step}
@@ -30,10 +30,10 @@ use Rattle.rasterize.proofs.descend.Statement.{statement}
 use Rattle.rasterize.proofs.descend.Tie as tie
 
 abbrev Inv-loop : tie.InvT-loop
-Inv-loop table₀ e depth across down p₀ table p = OnWay e depth table₀ p table
+Inv-loop table₀ e depth across down start table p = OnWay e (stageNode start) (depth - start .level) table₀ p table
 
 abbrev μ-loop : tie.MeasureT-loop
-μ-loop table₀ e depth across down p₀ table p = depth - p .level
+μ-loop table₀ e depth across down start table p = depth - p .level
 
 -- ---- before the loop
 module _ (s : tie.Start Inv-loop μ-loop) where
@@ -41,7 +41,7 @@ module _ (s : tie.Start Inv-loop μ-loop) where
   e = s .args .e
 
   measured : Measured e
-  measured = let p = s .pre .0 .on-sheet in sheet-measured (p .is-sheet) (p .edge-on)
+  measured = let p = s .pre .1 .on-sheet in sheet-measured (p .is-sheet) (p .edge-on)
 
   -- one direction
   run : {p q : ℤ} → Within (pos coordinateLimit) p → Within (pos coordinateLimit) q → Held extentLimit (back q -ℤ back p) (q -ℤ p)
@@ -62,22 +62,26 @@ start c = c .before .before .before .before
 sub-down : tie.Need-sub-down Inv-loop μ-loop
 sub-down c = held-fits tt (down (start c))
 
-first-stage-requires : tie.Need-first-stage-requires Inv-loop μ-loop
-first-stage-requires c κs = let s = start c in (omega (arith, s .pre .0 .shallow), measured s)
+-- the level below the last
+bottom : (s : tie.Start Inv-loop μ-loop) → s .args .depth ≡ s .args .start .level + (s .args .depth - s .args .start .level)
+bottom s = omega (arith, s .pre .0)
 
 loop-holds : tie.Need-loop-holds Inv-loop μ-loop
-loop-holds c = let s = start (c .before) in way-start (s .pre .0) (s .pre .1) (c .first-stage .ensures)
+loop-holds c =
+    let s = start c in
+    way-start (s .pre .1) (subst (λ n. StageOf (e s) n (s .args .start) (stageNode (s .args .start))) (bottom s) (s .pre .2))
 
 -- ---- a cell that may have quarters
 abbrev entered : tie.At-loop Inv-loop μ-loop → tie.Start Inv-loop μ-loop
-entered c = start (c .before .before)
+entered c = start (c .before)
 
-way : (c : tie.At-loop Inv-loop μ-loop) → OnWay (e (entered c)) (entered c .args .depth) (entered c .args .table .now) (c .loop .p) (c .loop .table)
+way : (c : tie.At-loop Inv-loop μ-loop)
+    → OnWay (e (entered c)) (stageNode (entered c .args .start)) (entered c .args .depth - entered c .args .start .level) (entered c .args .table .now) (c .loop .p) (c .loop .table)
 way c = c .loop .inv
 
 -- where it ends
 ended : (c : tie.At-loop Inv-loop μ-loop) {r : Node} → r ≡ stageNode (c .loop .p)
-    → Descent (e (entered c)) (entered c .args .depth) (entered c .args .table .now) r (c .loop .table)
+    → Descent (e (entered c)) (stageNode (entered c .args .start)) (entered c .args .depth - entered c .args .start .level) (entered c .args .table .now) r (c .loop .table)
 ended c k = way-node (way c) k
 
 lies-in-quarter-requires : tie.Need-lies-in-quarter-requires Inv-loop μ-loop
@@ -106,8 +110,8 @@ module _ (c : tie.Else2 Inv-loop μ-loop) where
   room : StageRoom p
   room = way-room (way here)
 
-  above : p .level < s .args .depth
-  above = c .before .before .if1 .taken
+  above : p .level < s .args .start .level + (s .args .depth - s .args .start .level)
+  above = omega (arith, bottom s, c .before .before .if1 .taken)
 
   lies : (abs (dx (e s)) ≤ℤ abs (p .left)) × (abs (dy (e s)) ≤ℤ abs (p .above))
   lies = c .before .lies-in-quarter .ensures .yes (not-false _ (c .if2 .left))
@@ -139,7 +143,7 @@ found c = c .before .before
 first-detail-requires : tie.Need-first-detail-requires Inv-loop μ-loop
 first-detail-requires c κs =
     let k = going-on (c .before) in
-    (omega (arith, above k, s k .pre .0 .shallow), room k .x-below, room k .y-below)
+    (omega (arith, above k, bottom (s k), s k .pre .0, s k .pre .1 .shallow), room k .x-below, room k .y-below)
 
 details-same : {w w′ u u′ v v′ x x′ y y′ : ℤ} → w ≡ w′ → u ≡ u′ → v ≡ v′ → x ≡ x′ → y ≡ y′ → quarterDetails w u v x y ≡ quarterDetails w′ u′ v′ x′ y′
 details-same {w} {w′} {u} {u′} {v} {v′} {x} {x′} {y} {y′} i j k l m =
@@ -185,7 +189,7 @@ loop-less : tie.Need-loop-less Inv-loop μ-loop
 loop-less c =
     let k = going-on (found (done (c .before))) in
     let deeper : c .quarter-stage .result .level ≡ suc (p k .level) = ap (λ (n : Stage). n .level) (c .quarter-stage .ensures) in
-    omega (arith, deeper, above k)
+    omega (arith, deeper, above k, bottom (s k))
 
 loop-again : tie.Need-loop-again Inv-loop μ-loop
 loop-again c =
@@ -213,7 +217,6 @@ descend-spec =
     μ-loop
     sub-across
     sub-down
-    first-stage-requires
     loop-holds
     lies-in-quarter-requires
     stage-node-requires
