@@ -155,7 +155,7 @@ fn side_from(points: &[i64], placement: Placement, mark: u8, k: usize) -> Side
 {
     let n = points.len() / 2;
     if mark == STRAIGHT {
-        return Side::Straight(rasterize::edge_from(points, placement, n, k));
+        return Side::Straight(contours::edge_from(points, placement, n, k));
     }
     Side::Curved(curve_from(points, placement, n, k))
 }

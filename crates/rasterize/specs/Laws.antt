@@ -20,13 +20,6 @@ pub mod EdgesInView
 pub mod EdgeAdded
 -- to take an edge out is to add the way back along it
 pub mod TurnedEdges
--- a run of edges in one quarter of a cell, and in all the cells above one; what an edge adds there; how large that is
-pub mod RunDetails
-pub mod Runs
-pub mod RunsAdded
-pub mod RunBounds
 -- the tables of several edges add up, and so does the room that they need
 pub mod Sums
 pub mod Fitting
--- the edges of a contour, one by one
-pub mod ContourEdges

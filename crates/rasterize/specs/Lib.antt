@@ -1,4 +1,4 @@
--- What an edge, a contour and an outline add to a table. Read in this order.
+-- What an edge adds to a table. Read in this order.
 
 -- a table with something added to each entry
 pub mod Added
@@ -6,14 +6,10 @@ pub mod Added
 pub mod Nodes
 -- what an edge adds in a cell and below it
 pub mod Contribution
--- the edges of a contour
-pub mod Contour
 -- what the functions ask of their callers
 pub mod Ready
 -- a cell on the way down to the smallest one that an edge lies in
 pub mod Stages
--- a run of edges in one cell, in the cells above it
-pub mod Runs
 -- a slanted walk from cell to cell
 pub mod Slanted
 -- a tile alone or on a sheet: how it has the edges, and what an edge adds then

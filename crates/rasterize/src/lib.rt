@@ -1,4 +1,4 @@
-// An edge, a contour, an outline into a table of Haar coefficients.
+// An edge into a table of Haar coefficients.
 //
 // The tile is cut into quarters, each quarter into quarters, and so on: a quadtree. An edge adds its term of the signed area to the root, and its
 // three details, h, v and d, which `edge` works out, and of a slanted edge `slanted`, to each cell inside which some part of it lies.
@@ -13,11 +13,7 @@
 //
 // A tile alone has the edges as they are. A tile of a sheet has them as they are seen from its corner, so that it begins at the origin too; some may lie
 // beyond it, and what an edge adds to the root is then its own part of the tile's area, rounded.
-//
-// A contour is the slice of its own points, and its last point joins its first. An outline is one contour after the other. A placement moves points:
-// each is fetched, placed, when an edge that begins or ends there is made, so that no list of placed points is kept.
 ghost use mathlib.Core.Path.{_≡_};
-ghost use mathlib.Core.Bool.{true};
 ghost use Prim.Native.Nat.{_+_, _*_, _/_, _%_, _-_, _^_, _<_, _≤_};
 ghost use lib.ListN.{length, getD, set};
 ghost use lib.IntN.{pos, _+ℤ_, _*ℤ_};
@@ -30,18 +26,14 @@ ghost use Rattle.edge.specs.WalkOf.{IsWalk, Decides};
 ghost use Rattle.edge.specs.Room.{Measured, Room};
 ghost use Rattle.edge.specs.Rounded.{rootTerm};
 ghost use Rattle.edge.specs.Nested.{seenFrom, OnRange, OnCell};
-ghost use Rattle.integers.specs.ListSum.{All};
 ghost use Rattle.integers.specs.Units.{greatestDepth, detailLimit};
-ghost use Rattle.accuracy.specs.Outline.{pointsOf, contoursOf, edgeCount, contourEdges, outlineEdges};
 ghost use Rattle.accuracy.specs.Tile.{cellWidth, tile as tileSquare};
-ghost use Rattle.placement.specs.Placed.{placeable, placed};
 ghost use Rattle.rasterize.specs.Added.{added, entryOf};
 ghost use Rattle.rasterize.specs.Nodes.{quarters, quarterNode, nodeAt};
 ghost use Rattle.rasterize.specs.Contribution.{ownPart, contribution};
-ghost use Rattle.rasterize.specs.Contour.{edgeOf};
 ghost use Rattle.rasterize.specs.Ready.{sumLimit, Spare, Ready, Splits, SmallDetails, squareOf, Descent, Fits};
 ghost use Rattle.rasterize.specs.Stages.{stageAt, quarterStage, stageNode, StageRoom, StageOf};
-ghost use Rattle.rasterize.specs.Views.{seenBy, rootPart, partTable, viewTable, InView, Seen, seenTable, turnedBy};
+ghost use Rattle.rasterize.specs.Views.{seenBy, rootPart, partTable, InView, Seen, seenTable, turnedBy};
 ghost use Rattle.slanted.specs.Parts.{halfOn};
 ghost use Rattle.rasterize.specs.Slanted.{slope, piece, spot, quarterOnWay, quarterSpot, SlantedReady, SlantedAdds};
 use edge::Cell;
@@ -49,7 +41,6 @@ use edge::Details;
 use edge::Edge;
 use edge::Span;
 use edge::Walk;
-use placement::Placement;
 use slanted::Piece;
 use slanted::Slope;
 
@@ -520,60 +511,5 @@ pub fn add_edge(table: &mut [i64], e: Edge, view: View, sign: i64, depth: usize)
     if sign != 0 {
         let way = turned_by(seen_by(view, e), sign);
         add_whole(table, way, view, depth);
-    }
-}
-
-// The edge from point k of a contour's n points, as placed, to the next one; from the last, to the first.
-pub fn edge_from(points: &[i64], placement: Placement, n: usize, k: usize) -> Edge
-    requires { ⌜ (k < n) × (2 * n ≤ length (now points)) × (placeable placement (now points) ≡ true) ⌝ }
-    ensures { λ r. ⌜ r ≡ edgeOf (placed placement (now (points .entry))) n k ⌝ }
-{
-    let next = if k + 1 < n { k + 1 } else { 0 };
-    let from = placement::point_at(placement, points, k);
-    let to = placement::point_at(placement, points, next);
-    Edge {
-        x0: from.x,
-        y0: from.y,
-        x1: to.x,
-        y1: to.y,
-    }
-}
-
-// Adds the edges of a contour, given by its own points, as placed.
-pub fn add_contour(
-    table: &mut [i64],
-    points: &[i64],
-    placement: Placement,
-    view: View,
-    sign: i64,
-    depth: usize,
-)
-    requires { ⌜ Fits (now table) depth (length (now points) / 2) × All (InView view depth) (contourEdges (pointsOf (placed placement (now points)))) × Within (pos 1) sign × (placeable placement (now points) ≡ true) ⌝ }
-    ensures { λ _. ⌜ now (table .exit) ≡ added (now (table .entry)) (λ i. sign *ℤ entryOf depth (viewTable view depth (contourEdges (pointsOf (placed placement (now (points .entry)))))) i) ⌝ }
-{
-    let n = points.len() / 2;
-    for k in 0..n {
-        add_edge(table, edge_from(points, placement, n, k), view, sign, depth);
-    }
-}
-
-// Adds the contours of an outline, as placed: each is the run of points that begins where the one before ended.
-pub fn add_outline(
-    table: &mut [i64],
-    points: &[i64],
-    counts: &[u32],
-    placement: Placement,
-    view: View,
-    sign: i64,
-    depth: usize,
-)
-    requires { ⌜ Fits (now table) depth (edgeCount (now counts)) × (2 * edgeCount (now counts) ≤ length (now points)) × All (InView view depth) (outlineEdges (contoursOf (now counts) (placed placement (now points)))) × Within (pos 1) sign × (placeable placement (now points) ≡ true) ⌝ }
-    ensures { λ _. ⌜ now (table .exit) ≡ added (now (table .entry)) (λ i. sign *ℤ entryOf depth (viewTable view depth (outlineEdges (contoursOf (now (counts .entry)) (placed placement (now (points .entry)))))) i) ⌝ }
-{
-    let mut start = 0;
-    for k in 0..counts.len() {
-        let end = start + 2 * counts[k] as usize;
-        add_contour(table, &points[start..end], placement, view, sign, depth);
-        start = end;
     }
 }

@@ -202,7 +202,7 @@ pub fn build_on_sheet(
     }
     tile::clear(table);
     let view = view_of(Site::OnSheet(place));
-    rasterize::add_outline(
+    contours::add_outline(
         table,
         points,
         counts,

@@ -353,7 +353,7 @@ pub fn build_placed(
         return Built { number, edges: 0 };
     }
     clear(table);
-    rasterize::add_outline(
+    contours::add_outline(
         table,
         points,
         counts,

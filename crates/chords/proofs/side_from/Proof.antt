@@ -11,7 +11,7 @@ use denote.Ref.{now}
 use borrow.Author.Tests.{eq-eqb, ne-eqb}
 use Rattle.placement.specs.Placed.{placed}
 use Rattle.placement.specs.Laws.PlacedPoints.{placed-length}
-use Rattle.rasterize.specs.Contour.{edgeOf}
+use Rattle.contours.specs.Contour.{edgeOf}
 use Rattle.chords.specs.declared.Side.the-variants.{Straight, Curved}
 use Rattle.chords.specs.Sides.{numbersOf}
 use Rattle.chords.specs.Inner.{curveAt, sideAt}

@@ -11,9 +11,9 @@ use Rattle.placement.specs.Placed.{placed}
 use borrow.Author.Needs.{needs}
 use borrow.Author.Tests.{lt-ltb, le-ltb}
 use Rattle.integers.specs.Bits.{field-is}
-use Rattle.rasterize.specs.Contour.{next}
-use Rattle.rasterize.proofs.edge_from.Statement.{statement}
-use Rattle.rasterize.proofs.edge_from.Tie as tie
+use Rattle.contours.specs.Contour.{next}
+use Rattle.contours.proofs.edge_from.Statement.{statement}
+use Rattle.contours.proofs.edge_from.Tie as tie
 
 abbrev edge : ℤ → ℤ → ℤ → ℤ → Edge
 edge x0 y0 x1 y1 = record { x0 = x0; y0 = y0; x1 = x1; y1 = y1 }

@@ -24,16 +24,16 @@ use Rattle.haar.specs.Plane.{at}
 use Rattle.accuracy.specs.Outline.{Point, edgeBetween}
 use Rattle.accuracy.specs.Tile.{square, tile, EdgeOnTile, CellOf}
 use Rattle.accuracy.specs.Laws.Squares.{square-tile}
 use Rattle.rasterize.specs.declared.Node.{Node}
 use Rattle.rasterize.specs.Nodes.{quarterNode, nodeAt}
 use Rattle.rasterize.specs.Contribution.{firstDetail, ownPart, contribution}
 use Rattle.rasterize.specs.Ready.{OnSheet}
-use Rattle.rasterize.specs.Runs.{withArea, partIn, above, triangle}
+use Rattle.contours.specs.Runs.{withArea, partIn, above, triangle}
 use Rattle.rasterize.specs.Laws.Nodes.{quarterNode-at}
 use Rattle.rasterize.specs.Laws.OnSheet.{quarter-on-sheet}
 use Rattle.rasterize.specs.Laws.Contributions.{contribution-quarter}
 use Rattle.rasterize.specs.Laws.EdgesInView.{in-view-alone}
-use Rattle.rasterize.specs.Laws.Runs.{on-ancestor, parent-on, above-zero, above-suc, above-join}
+use Rattle.contours.specs.Laws.Runs.{on-ancestor, parent-on, above-zero, above-suc, above-join}
 
 -- ---- on the tile
 from-zero : {p w : ℤ} → OnRange (pos 0) w p → p ≤ℤ w

@@ -26,8 +26,8 @@ use Rattle.edge.specs.Laws.Cells.{difference-on, details-on}
 use Rattle.haar.specs.Plane.{at}
 use Rattle.accuracy.specs.Outline.{Point, edgeBetween}
 use Rattle.accuracy.specs.Tile.{cellWidth, square}
 use Rattle.rasterize.specs.Nodes.{nodeAt}
-use Rattle.rasterize.specs.Runs.{ancestor, halfAt, withArea, widestRun, triangle}
+use Rattle.contours.specs.Runs.{ancestor, halfAt, withArea, widestRun, triangle}
 
 pub narrow-cell : (depth K : ℕ) → depth ≤ K + 2 → cellWidth depth K ≤ widestRun
 narrow-cell depth K h = omega (arith, pow-mono {i = depth - K} {j = 2} (omega arith))

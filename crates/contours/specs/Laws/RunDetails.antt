@@ -26,7 +26,7 @@ use Rattle.edge.specs.Laws.Cells.{HalfView, first, second, half-view}
 use Rattle.edge.specs.Laws.InQuarter.{in-quarter}
 use Rattle.accuracy.specs.Outline.{Point, edgeBetween}
 use Rattle.accuracy.specs.ExactDetails.{numbered}
-use Rattle.rasterize.specs.Runs.{withArea, triangle, fromHalf, detailsIn}
+use Rattle.contours.specs.Runs.{withArea, triangle, fromHalf, detailsIn}
 
 -- ---- one direction: p and q in half i of a range
 -- Where their sum says half k, they lie in that too: on the middle they lie in both.

@@ -14,14 +14,14 @@ use Rattle.integers.specs.ListSum.{All}
 use Rattle.accuracy.specs.Outline.{pointsOf, contoursOf, contourEdges, outlineEdges}
 use Rattle.placement.specs.Placed.{placed}
 use Rattle.placement.specs.Laws.PlacedPoints.{placed-length, placed-part, placeable-part}
 use Rattle.rasterize.specs.Ready.{Fits}
 use Rattle.rasterize.specs.Views.{InView}
 use Rattle.rasterize.specs.Added.{added}
 use Rattle.rasterize.specs.Laws.Sums.{edgesPart}
-use Rattle.rasterize.proofs.OutlineLoop.{OutlineLoop, outline-start, outline-end, outline-length}
-use Rattle.rasterize.proofs.OutlineLoop.{outline-bounds, outline-fits, outline-in, outline-step}
-use Rattle.rasterize.proofs.add_outline.Statement.{statement}
-use Rattle.rasterize.proofs.add_outline.Tie as tie
+use Rattle.contours.proofs.OutlineLoop.{OutlineLoop, outline-start, outline-end, outline-length}
+use Rattle.contours.proofs.OutlineLoop.{outline-bounds, outline-fits, outline-in, outline-step}
+use Rattle.contours.proofs.add_outline.Statement.{statement}
+use Rattle.contours.proofs.add_outline.Tie as tie
 
 abbrev Inv-loop : tie.InvT-loop
 Inv-loop table₀ points counts placement view sign depth start₀ k₀ k-end table start k =

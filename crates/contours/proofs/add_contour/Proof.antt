@@ -5,19 +5,19 @@ use native.Mathlib.Nat.{le-of-eq, le-trans}
 use lib.ListN.{length}
 use Rattle.placement.specs.Placed.{placed}
 use Rattle.placement.specs.Laws.PlacedPoints.{placed-length}
-use Rattle.rasterize.specs.Contour.{edgeOf}
+use Rattle.contours.specs.Contour.{edgeOf}
 use Rattle.rasterize.specs.Laws.Fitting.{fits-le}
 use native.Mathlib.Omega.{arith}
 use mir.Syntax.{w64}
 use mir.Val.{toZ}
 use Rattle.integers.specs.Bits.{back, back-is}
 use Rattle.integers.specs.Held.{held-number, held-within}
 use Rattle.accuracy.specs.Outline.{pointsOf, contourEdges}
 use Rattle.rasterize.specs.Added.{added}
 use Rattle.rasterize.specs.Laws.Sums.{edgesPart}
-use Rattle.rasterize.proofs.ContourLoop.{ContourLoop, contour-start, contour-edge, contour-step, contour-asks, contour-end}
-use Rattle.rasterize.proofs.add_contour.Statement.{statement}
-use Rattle.rasterize.proofs.add_contour.Tie as tie
+use Rattle.contours.proofs.ContourLoop.{ContourLoop, contour-start, contour-edge, contour-step, contour-asks, contour-end}
+use Rattle.contours.proofs.add_contour.Statement.{statement}
+use Rattle.contours.proofs.add_contour.Tie as tie
 
 abbrev Inv-loop : tie.InvT-loop
 Inv-loop table₀ points placement view sign depth n k₀ table k = ContourLoop view depth (toZ w64 sign) (placed placement points) table₀ table k

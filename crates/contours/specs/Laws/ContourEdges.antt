@@ -23,7 +23,7 @@ use Rattle.edge.specs.declared.Edge.{Edge}
 use Rattle.accuracy.specs.Outline.{Point, pointsOf, pointAt, edgeBetween, through, contourEdges}
 use Rattle.accuracy.specs.Laws.Contours.{contourEdges-length}
 use Rattle.accuracy.specs.Laws.Coordinates.{pointsOf-length, pointsOf-entry}
-use Rattle.rasterize.specs.Contour.{next, edgeOf}
+use Rattle.contours.specs.Contour.{next, edgeOf}
 
 -- ---- the next point
 module _ (n k : ℕ) where

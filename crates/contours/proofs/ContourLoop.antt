@@ -16,15 +16,15 @@ use Rattle.integers.specs.ListSum.{All}
 use Rattle.integers.specs.RangeSum.{Σ<, Σ-zero, Σ-suc}
 use Rattle.edge.specs.declared.Edge.{Edge}
 use Rattle.accuracy.specs.Outline.{pointsOf, contourEdges}
 use Rattle.rasterize.specs.declared.View.{View}
 use Rattle.rasterize.specs.Added.{added, entryOf}
-use Rattle.rasterize.specs.Contour.{edgeOf}
+use Rattle.contours.specs.Contour.{edgeOf}
 use Rattle.rasterize.specs.Ready.{Fits}
 use Rattle.rasterize.specs.Views.{partTable, InView}
 use Rattle.rasterize.specs.Laws.Adding.{added-same, added-signed, added-nothing}
 use Rattle.rasterize.specs.Laws.Sums.{entryOf-total, edgesPart}
 use Rattle.rasterize.specs.Laws.Fitting.{fits-le, fits-edge}
-use Rattle.rasterize.specs.Laws.ContourEdges.{contourEdges-sum, edgeOf-has}
+use Rattle.contours.specs.Laws.ContourEdges.{contourEdges-sum, edgeOf-has}
 
 -- what edge k of a contour adds to entry i; `points` are the contour's coordinates, two to a point
 abbrev edgeEntry : View → ℕ → List ℤ → ℕ → ℕ → ℤ

@@ -25,10 +25,10 @@ use Rattle.haar.specs.Plane.{at}
 use Rattle.accuracy.specs.Outline.{Point, edgeBetween}
 use Rattle.accuracy.specs.Tile.{cellWidth, square}
 use Rattle.accuracy.specs.Laws.Squares.{cellWidth-halves, square-quarter}
 use Rattle.rasterize.specs.Nodes.{nodeAt}
 use Rattle.rasterize.specs.Contribution.{firstDetail}
-use Rattle.rasterize.specs.Runs.{ancestor, halfAt, partIn, levelPart, above, triangle, detailsIn}
-use Rattle.rasterize.specs.Laws.RunDetails.{details-in-quarter, details-join}
+use Rattle.contours.specs.Runs.{ancestor, halfAt, partIn, levelPart, above, triangle, detailsIn}
+use Rattle.contours.specs.Laws.RunDetails.{details-in-quarter, details-join}
 
 -- ---- up the quadtree
 div-pow-suc : (x n : ℕ) → x / 2 ^ suc n ≡ x / 2 ^ n / 2
