@@ -7,6 +7,7 @@
 --   SmallDetails w               three details that an edge may have
 --   OnSheet e left s              an edge and a square on one sheet, the square wide enough for `left` levels
 --   Ready t e left c             a table, an edge and a cell, with `left` levels from the cell's on
+--   ReadyIn t e depth c          a table, an edge and a cell of the tile that the edge lies on
 --   Splits c                     a cell that has quarters
 --   Fits t depth n               a table of a tile of side 2^depth, with room for n more edges
 --   squareOf w                   a square at the origin
@@ -14,7 +15,7 @@
 --                                and below it, `all` levels, would
 use mathlib.Core.Path.{_≡_}
 use mathlib.Core.List.{List}
-use Prim.Native.Nat.{ℕ, zero, suc, _+_, _*_, _^_, _<_, _≤_}
+use Prim.Native.Nat.{ℕ, zero, suc, _+_, _*_, _-_, _^_, _<_, _≤_}
 use lib.ListN.{length, getD}
 use lib.IntN.{ℤ, pos, _*ℤ_}
 use lib.Signed.{_≤ℤ_}
@@ -23,7 +24,7 @@ use Rattle.integers.specs.Within.{Within}
 use Rattle.edge.specs.declared.Edge.{Edge}
 use Rattle.edge.specs.declared.Cell.{Cell as Square}
 use Rattle.edge.specs.declared.Details.{Details}
-use Rattle.edge.specs.Rounded.{DetailsWithin}
+use Rattle.edge.specs.Rounded.{rootTerm, DetailsWithin}
 use Rattle.edge.specs.Room.{coordinateLimit, Even}
 use Rattle.edge.specs.Nested.{Contains, Sheet, OnCell}
 use Rattle.haar.specs.Cells.{children}
@@ -69,6 +70,19 @@ pub record Ready (t : List ℤ) (e : Edge) (left : ℕ) (c : Node) : Type 0 wher
   pub long : children dimensions ^ (c .level + left) ≤ length t
   pub spare : Spare t (visits left)
   pub on-sheet : OnSheet e left (c .square)
+
+-- for the edge's part of the root and what it adds in the cell and below
+pub record ReadyIn (t : List ℤ) (e : Edge) (depth : ℕ) (c : Node) : Type 0 where
+  pub shallow : depth ≤ greatestDepth
+  pub exact : length t ≡ children dimensions ^ depth
+  pub level-to-depth : c .level ≤ depth
+  pub x-below : c .x < 2 ^ c .level
+  pub y-below : c .y < 2 ^ c .level
+  pub of-tile : c ≡ nodeAt depth (c .level) (c .x) (c .y)
+  pub spare : Spare t (1 + visits (depth - c .level))
+  pub on-sheet : OnSheet e (depth - c .level) (c .square)
+  pub on : OnCell (c .square) e
+  pub root : Within (pos detailLimit) (rootTerm e)
 
 pub record Splits (c : Node) : Type 0 where
   pub shallow : c .level < greatestDepth

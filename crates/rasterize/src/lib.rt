@@ -23,15 +23,16 @@ ghost use Rattle.integers.specs.Magnitude.{abs};
 ghost use Rattle.edge.specs.Walk.{dx, dy};
 ghost use Rattle.edge.specs.Cuts.{span as spanOf};
 ghost use Rattle.edge.specs.WalkOf.{IsWalk, Decides};
-ghost use Rattle.edge.specs.Room.{Measured, Room};
+ghost use Rattle.edge.specs.Room.{coordinateLimit, Measured, Room};
+ghost use Rattle.edge.specs.Code.{beforeMiddle};
 ghost use Rattle.edge.specs.Rounded.{rootTerm};
 ghost use Rattle.edge.specs.Nested.{seenFrom, OnRange, OnCell};
-ghost use Rattle.integers.specs.Units.{greatestDepth, detailLimit};
+ghost use Rattle.integers.specs.Units.{greatestDepth, greatestSide, detailLimit};
 ghost use Rattle.accuracy.specs.Tile.{cellWidth, tile as tileSquare};
-ghost use Rattle.rasterize.specs.Added.{added, entryOf};
+ghost use Rattle.rasterize.specs.Added.{added, atRoot, entryOf};
 ghost use Rattle.rasterize.specs.Nodes.{quarters, quarterNode, nodeAt};
 ghost use Rattle.rasterize.specs.Contribution.{ownPart, contribution};
-ghost use Rattle.rasterize.specs.Ready.{sumLimit, Spare, Ready, Splits, SmallDetails, squareOf, Descent, Fits};
+ghost use Rattle.rasterize.specs.Ready.{sumLimit, Spare, Ready, ReadyIn, Splits, SmallDetails, squareOf, Descent, Fits};
 ghost use Rattle.rasterize.specs.Stages.{stageAt, quarterStage, stageNode, StageRoom, StageOf};
 ghost use Rattle.rasterize.specs.Views.{seenBy, rootPart, partTable, InView, Seen, seenTable, turnedBy};
 ghost use Rattle.slanted.specs.Parts.{halfOn};
@@ -115,7 +116,7 @@ fn add_at(table: &mut [i64], i: usize, x: i64)
 }
 
 // Adds the details w at the three entries from `first` on.
-fn add_details(table: &mut [i64], first: usize, w: Details)
+pub fn add_details(table: &mut [i64], first: usize, w: Details)
     requires { ⌜ first + 2 < length (now table) × Spare (now table) 1 × SmallDetails w ⌝ }
     ensures { λ _. ⌜ now (table .exit) ≡ added (now (table .entry)) (ownPart w first) ⌝ }
 {
@@ -330,6 +331,31 @@ fn first_stage(e: Edge, depth: usize) -> Stage
     }
 }
 
+// How far p and q lie before the middle of range n, each range being w wide, added up.
+fn before_middle(n: usize, w: i64, p: i64, q: i64) -> i64
+    requires { ⌜ (n < greatestSide) × Within (pos coordinateLimit) w × Within (pos coordinateLimit) p × Within (pos coordinateLimit) q ⌝ }
+    ensures { λ r. ⌜ r ≡ beforeMiddle (pos n *ℤ w) w p q ⌝ }
+{
+    (2 * n + 1) as i64 * w - (p + q)
+}
+
+// A cell of the tile, for an edge.
+fn cell_stage(e: Edge, c: Spot, depth: usize) -> Stage
+    requires { ⌜ (depth ≤ greatestDepth) × (c .level ≤ depth) × (c .x < 2 ^ c .level) × (c .y < 2 ^ c .level) × Measured e ⌝ }
+    ensures { λ r. ⌜ r ≡ stageAt e (nodeAt depth (c .level) (c .x) (c .y)) ⌝ }
+{
+    let width = tile_width(depth - c.level);
+    let w = width as i64;
+    Stage {
+        level: c.level,
+        x: c.x,
+        y: c.y,
+        width: width,
+        left: before_middle(c.x, w, e.x0, e.x1),
+        above: before_middle(c.y, w, e.y0, e.y1),
+    }
+}
+
 // Does the edge lie in one quarter of the cell?
 fn lies_in_quarter(p: Stage, e: Edge) -> bool
     requires { ⌜ StageRoom p × Measured e ⌝ }
@@ -462,6 +488,16 @@ fn add_from(table: &mut [i64], e: Edge, start: Stage, depth: usize)
     if c.level < depth {
         add_on(table, e, c, depth - c.level);
     }
+}
+
+// Adds an edge's part of the root of a tile alone, and what it adds in a cell that it lies on and below.
+pub fn add_within(table: &mut [i64], e: Edge, c: Spot, depth: usize)
+    requires { ⌜ ReadyIn (now table) e depth (nodeAt depth (c .level) (c .x) (c .y)) ⌝ }
+    ensures { λ _. ⌜ now (table .exit) ≡ added (now (table .entry)) (λ i. atRoot (rootTerm e) i +ℤ contribution e (depth - c .level) (nodeAt depth (c .level) (c .x) (c .y)) i) ⌝ }
+{
+    add_at(table, 0, root_term(e));
+    let start = cell_stage(e, c, depth);
+    add_from(table, e, start, depth);
 }
 
 // Adds the details of an edge, as the tile has it. One that leaves the tile has no way down: the recursion begins at the tile.

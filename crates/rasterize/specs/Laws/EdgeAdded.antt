@@ -5,7 +5,8 @@
 --   root-part-small              its part of the root is no larger than a detail
 --   root-inside                  a table has a root
 --   tile-ready                   so a table with room for it can be given to the recursion, once the root has its part
---   edge-added                   the root's part and the recursion's are what the edge adds
+--   rooted-added                 something added at the root is an addition to every entry, of nothing elsewhere
+--   edge-entry, edge-added       the root's part and the recursion's are what the edge adds
 use mathlib.Core.Path.{_≡_, sym, _∙_, ap, subst⁻¹}
 use mathlib.Core.List.{List, [], _∷_}
 use Prim.Native.Nat.{ℕ, zero, suc, _+_, _*_, _-_, _/_, _^_, _<_, _≤_}
@@ -26,7 +27,7 @@ use Rattle.haar.specs.Plane.{dimensions}
 use Rattle.haar.specs.Laws.Entries.{entries-root}
 use Rattle.accuracy.specs.Tile.{cellWidth}
 use Rattle.rasterize.specs.declared.View.{View}
-use Rattle.rasterize.specs.Added.{added, entryOf}
+use Rattle.rasterize.specs.Added.{added, atRoot, entryOf}
 use Rattle.rasterize.specs.Nodes.{nodeAt}
 use Rattle.rasterize.specs.Contribution.{contribution}
 use Rattle.rasterize.specs.Ready.{visits, Spare, Ready, Fits}
@@ -55,12 +56,7 @@ module _ {view : View} {depth : ℕ} {e : Edge} (v : Seen view depth e) where
   root-part-small = v .small .root-within
 
 -- ---- the root's part
--- z at the root, and nothing elsewhere
-abbrev atRoot : ℤ → ℕ → ℤ
-atRoot z zero = z
-atRoot z (suc i) = pos 0
-
-rooted-added : (t : List ℤ) (z : ℤ) → 0 < length t → set t 0 (getD t 0 (pos 0) +ℤ z) ≡ added t (atRoot z)
+pub rooted-added : (t : List ℤ) (z : ℤ) → 0 < length t → set t 0 (getD t 0 (pos 0) +ℤ z) ≡ added t (atRoot z)
 rooted-added t z h = added-unique t (set t 0 (getD t 0 (pos 0) +ℤ z)) (atRoot z) (length-set t 0 (getD t 0 (pos 0) +ℤ z)) entry
   where
     nothing : (x : ℤ) → x ≡ x +ℤ pos 0
@@ -106,17 +102,18 @@ module _ {t : List ℤ} {view : View} {depth : ℕ} {e : Edge} (fits : Fits t de
         on-sheet = v .on-sheet;
       }
 
+  -- an entry is the root's part or a detail
+  pub edge-entry : (i : ℕ) → i < length t → atRoot root i +ℤ contribution e depth (nodeAt depth 0 0 0) i ≡ entryOf depth (seenTable view depth e) i
+  edge-entry zero h =
+      let plain : root +ℤ pos 0 ≡ root = ring (root ∷ []) (search read depth 40) tt in
+      ap (λ z. root +ℤ z) (contribution-root e depth (nodeAt depth 0 0 0)) ∙ plain ∙ sym (entries-root dimensions depth (seenTable view depth e))
+  edge-entry (suc i) h =
+      let below = contribution e depth (nodeAt depth 0 0 0) (suc i) in
+      let plain : pos 0 +ℤ below ≡ below = ring (below ∷ []) (search read depth 40) tt in
+      plain ∙ edge-entries root e depth (suc i) (omega arith) (omega (arith, fits .exact))
+
   -- both parts together
   pub edge-added : {u : List ℤ} → u ≡ added rooted (contribution e depth (nodeAt depth 0 0 0)) → u ≡ added t (entryOf depth (seenTable view depth e))
-  edge-added {u} q = q ∙ ap (λ l. added l below) (rooted-added t root root-inside) ∙ added-both t (atRoot root) below (entryOf depth (seenTable view depth e)) entry
-    where
-      below : ℕ → ℤ
-      below = contribution e depth (nodeAt depth 0 0 0)
-
-      entry : (i : ℕ) → i < length t → atRoot root i +ℤ below i ≡ entryOf depth (seenTable view depth e) i
-      entry zero h =
-          let plain : root +ℤ pos 0 ≡ root = ring (root ∷ []) (search read depth 40) tt in
-          ap (λ z. root +ℤ z) (contribution-root e depth (nodeAt depth 0 0 0)) ∙ plain ∙ sym (entries-root dimensions depth (seenTable view depth e))
-      entry (suc i) h =
-          let plain : pos 0 +ℤ below (suc i) ≡ below (suc i) = ring (below (suc i) ∷ []) (search read depth 40) tt in
-          plain ∙ edge-entries root e depth (suc i) (omega arith) (omega (arith, fits .exact))
+  edge-added {u} q =
+      let below = contribution e depth (nodeAt depth 0 0 0) in
+      q ∙ ap (λ l. added l below) (rooted-added t root root-inside) ∙ added-both t (atRoot root) below (entryOf depth (seenTable view depth e)) edge-entry
