@@ -18,7 +18,7 @@ use Rattle.edge.specs.declared.Edge.{Edge}
 use Rattle.accuracy.specs.Outline.{pointsOf, contourEdges}
 use Rattle.rasterize.specs.declared.View.{View}
 use Rattle.rasterize.specs.Added.{added, entryOf}
-use Rattle.contours.specs.Contour.{edgeOf}
+use Rattle.contours.specs.Contour.{edgeOf, edgeEntry, edgesFrom}
 use Rattle.rasterize.specs.Ready.{Fits}
 use Rattle.rasterize.specs.Views.{partTable, InView}
 use Rattle.rasterize.specs.Laws.Adding.{added-same, added-signed, added-nothing}
@@ -26,11 +26,7 @@ use Rattle.rasterize.specs.Laws.Sums.{entryOf-total, edgesPart}
 use Rattle.rasterize.specs.Laws.Fitting.{fits-le, fits-edge}
 use Rattle.contours.specs.Laws.ContourEdges.{contourEdges-sum, edgeOf-has}
 
--- what edge k of a contour adds to entry i; `points` are the contour's coordinates, two to a point
-abbrev edgeEntry : View → ℕ → List ℤ → ℕ → ℕ → ℤ
-edgeEntry view depth points i k = entryOf depth (partTable view depth (edgeOf points (length points / 2) k)) i
-
--- and what its first k edges add
+-- what a contour's first k edges add
 abbrev firstEdges : View → ℕ → List ℤ → ℕ → ℕ → ℤ
 firstEdges view depth points k i = Σ< k (edgeEntry view depth points i)
 

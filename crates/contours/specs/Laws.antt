@@ -7,3 +7,5 @@ pub mod RunDetails
 pub mod Runs
 pub mod RunsAdded
 pub mod RunBounds
+-- the cell of a run
+pub mod RunCells

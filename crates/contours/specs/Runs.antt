@@ -8,13 +8,25 @@
 --   partIn e a c u v i                   what edge e and area a, in quarter (u, v) of cell c, add to entry i in that cell
 --   levelPart e a depth K x y j i        the same in the cell of level j above cell (x, y) of level K, in which e and a lie
 --   above e a depth K x y i              and in all the cells above it
---   widestRun                            how wide a run's cell may be, in steps
+--   runLevels, widestRun, longestRun     how many levels a run's cell is above a pixel, how wide it is, in steps; how many edges a run may have
+--   runSquare c, runNode depth c         the cell of a run: its square, and with its level
+--   squareAt c w, parentSpot c           a cell's square by its width, and the cell above it
 --   triangle s m t                       the area between the edges from s to m and from m to t and the edge from s to t
 --   fromHalf i side w p q                how far p and q, in half i of a range, lie from that half's side of the range, added up
 --   detailsIn e s i j                    the details of an edge in quarter (i, j) of a square
-use Prim.Native.Nat.{ℕ, zero, suc, _*_, _-_, _/_, _%_, _^_}
-use lib.IntN.{ℤ, negℤ, _+ℤ_, _-ℤ_, _*ℤ_}
-use Rattle.integers.specs.Units.{stepsPerPixel}
+--   AboveReady t e a depth c             what adding a chord and an area in the cells above a run's cell asks for
+--   RunReady t points depth k c          what a run from edge k on asks for
+--   Along depth points k c before t r    a run has come so far: once its chord and its area are added above its cell, its edges are added
+use mathlib.Core.Path.{_≡_}
+use mathlib.Core.Bool.{cond}
+use mathlib.Core.List.{List}
+use Prim.Native.Nat.{ℕ, zero, suc, _+_, _*_, _-_, _/_, _%_, _^_, _<_, _≤_}
+use lib.Dec.{ltb}
+use lib.ListN.{length}
+use lib.IntN.{ℤ, pos, negℤ, _+ℤ_, _-ℤ_, _*ℤ_}
+use Rattle.integers.specs.Units.{stepsPerPixel, greatestDepth, detailLimit}
+use Rattle.integers.specs.Within.{Within}
+use Rattle.integers.specs.ListSum.{All}
 use Rattle.integers.specs.HalfSign.{halfSign}
 use Rattle.integers.specs.RangeSum.{Σ<}
 use Rattle.edge.specs.declared.Edge.{Edge}
@@ -23,10 +35,20 @@ use Rattle.edge.specs.declared.Details.{Details}
 use Rattle.edge.specs.Walk.{dx, dy}
 use Rattle.edge.specs.Rounded.{details, rootTerm}
 use Rattle.edge.specs.Code.{turned}
-use Rattle.accuracy.specs.Outline.{Point, edgeBetween}
+use Rattle.edge.specs.Nested.{OnCell}
+use Rattle.haar.specs.Cells.{children}
+use Rattle.haar.specs.Plane.{dimensions}
+use Rattle.accuracy.specs.Outline.{Point, pointsOf, pointAt, edgeBetween, contourEdges}
 use Rattle.rasterize.specs.declared.Node.{Node}
+use Rattle.rasterize.specs.declared.Spot.{Spot}
 use Rattle.rasterize.specs.Nodes.{nodeAt}
+use Rattle.rasterize.specs.declared.View.the-variants.{Alone}
+use Rattle.rasterize.specs.Added.{added}
 use Rattle.rasterize.specs.Contribution.{firstDetail, ownPart}
+use Rattle.rasterize.specs.Ready.{visits, Spare}
+use Rattle.rasterize.specs.Views.{InView}
+use Rattle.contours.specs.declared.Run.{Run}
+use Rattle.contours.specs.Contour.{edgeOf, edgesFrom}
 
 -- ---- the cells above a cell
 -- Each level up halves a cell's numbers.
@@ -55,8 +77,32 @@ abbrev pub above : Edge → ℤ → (depth K x y i : ℕ) → ℤ
 above e a depth K x y i = Σ< K (λ j. levelPart e a depth K x y j i)
 
 -- four pixels: in so narrow a cell a run's area and its chord's details are small
+abbrev pub runLevels : ℕ
+runLevels = 2
+
 abbrev pub widestRun : ℕ
 widestRun = 4 * stepsPerPixel
+
+-- so that its area is small
+abbrev pub longestRun : ℕ
+longestRun = 64
+
+-- what one more edge adds to a run's area at most, in units: twice the area of so wide a square
+abbrev pub triangleLimit : ℕ
+triangleLimit = 2 * (widestRun * widestRun)
+
+abbrev pub runSquare : Spot → Square
+runSquare c = record { left = pos (c .x * widestRun); top = pos (c .y * widestRun); width = pos widestRun }
+
+-- cell c, of cells that are w wide
+abbrev pub squareAt : Spot → ℤ → Square
+squareAt c w = record { left = pos (c .x) *ℤ w; top = pos (c .y) *ℤ w; width = w }
+
+abbrev pub parentSpot : Spot → Spot
+parentSpot c = record { level = c .level - 1; x = c .x / 2; y = c .y / 2 }
+
+abbrev pub runNode : ℕ → Spot → Node
+runNode depth c = nodeAt depth (c .level) (c .x) (c .y)
 
 -- what a run's area gains when the edge from m to t comes after the chord from s to m
 abbrev pub triangle : Point → Point → Point → ℤ
@@ -75,3 +121,45 @@ detailsIn e s i j = record {
   v = negℤ (fromHalf j (s .top) (s .width) (e .y0) (e .y1) *ℤ dx e);
   d = turned j (fromHalf i (s .left) (s .width) (e .x0) (e .x1) *ℤ dy e);
 }
+
+-- ---- what the functions ask for, and what they promise
+pub record AboveReady (t : List ℤ) (e : Edge) (a : ℤ) (depth : ℕ) (c : Spot) : Type 0 where
+  pub shallow : depth ≤ greatestDepth
+  pub exact : length t ≡ children dimensions ^ depth
+  pub level : c .level + runLevels ≡ depth
+  pub x-below : c .x < 2 ^ c .level
+  pub y-below : c .y < 2 ^ c .level
+  pub on : OnCell (runSquare c) e
+  pub small : Within (pos (longestRun * triangleLimit)) a
+  pub spare : Spare t greatestDepth
+
+pub record RunReady (t points : List ℤ) (depth k : ℕ) (c : Spot) : Type 0 where
+  pub shallow : depth ≤ greatestDepth
+  pub exact : length t ≡ children dimensions ^ depth
+  pub level : c .level + runLevels ≡ depth
+  pub x-below : c .x < 2 ^ c .level
+  pub y-below : c .y < 2 ^ c .level
+  pub from : k < length points / 2
+  pub in-view : All (InView Alone depth) (contourEdges (pointsOf points))
+  pub on : OnCell (runSquare c) (edgeOf points (length points / 2) k)
+  pub spare : Spare t (visits greatestDepth)
+
+-- the point at which the edges before edge k end: after the last edge, the first point
+abbrev pub reached : List ℤ → ℕ → Point
+reached points k = pointAt points (cond (ltb k (length points / 2)) k 0)
+
+abbrev pub chordOf : List ℤ → ℕ → Run → Edge
+chordOf points k r = edgeBetween (pointAt points k) (record { x = r .x; y = r .y })
+
+-- `before` is the table before the run's first edge
+pub record Along (depth : ℕ) (points : List ℤ) (k : ℕ) (c : Spot) (before table : List ℤ) (r : Run) : Type 0 where
+  pub from : k ≤ r .next
+  pub to : r .next ≤ length points / 2
+  pub short : r .next ≤ k + longestRun
+  pub at-end : record { x = r .x; y = r .y } ≡ reached points (r .next)
+  pub on : OnCell (runSquare c) (chordOf points k r)
+  pub sums : Within (pos ((r .next - k) * detailLimit)) (r .sum)
+  pub small : Within (pos ((r .next - k) * triangleLimit)) (r .sum -ℤ rootTerm (chordOf points k r))
+  pub spare : Spare table (visits greatestDepth - (1 + visits runLevels) * (r .next - k))
+  pub rest : added table (above (chordOf points k r) (r .sum -ℤ rootTerm (chordOf points k r)) depth (c .level) (c .x) (c .y))
+      ≡ added before (edgesFrom Alone depth points k (r .next - k))

@@ -4,19 +4,28 @@
 // each is fetched, placed, when an edge that begins or ends there is made, so that no list of placed points is kept.
 ghost use mathlib.Core.Path.{_≡_};
 ghost use mathlib.Core.Bool.{true};
-ghost use Prim.Native.Nat.{_+_, _*_, _/_, _<_, _≤_};
+ghost use Prim.Native.Nat.{_+_, _*_, _/_, _^_, _<_, _≤_};
 ghost use lib.ListN.{length};
 ghost use lib.IntN.{pos, _*ℤ_};
 ghost use Rattle.integers.specs.Within.{Within};
 ghost use Rattle.integers.specs.ListSum.{All};
+ghost use Rattle.integers.specs.HalfSign.{halfSign};
+ghost use Rattle.integers.specs.Units.{greatestDepth, greatestSide, greatestCoordinate};
+ghost use Rattle.edge.specs.Room.{Measured};
+ghost use Rattle.edge.specs.Nested.{OnRange, OnCell};
+ghost use Rattle.edge.specs.WalkOf.{Decides};
 ghost use Rattle.accuracy.specs.Outline.{pointsOf, contoursOf, edgeCount, contourEdges, outlineEdges};
 ghost use Rattle.placement.specs.Placed.{placeable, placed};
 ghost use Rattle.rasterize.specs.Added.{added, entryOf};
 ghost use Rattle.rasterize.specs.Ready.{Fits};
 ghost use Rattle.rasterize.specs.Views.{viewTable, InView};
 ghost use Rattle.contours.specs.Contour.{edgeOf};
+ghost use Rattle.contours.specs.Runs.{runLevels, widestRun, longestRun, triangleLimit, runSquare, squareAt, parentSpot, withArea, fromHalf, detailsIn, above, AboveReady, RunReady, Along};
+ghost use Rattle.contours.specs.Laws.RunCells.{SmallEdge};
+use edge::Details;
 use edge::Edge;
 use placement::Placement;
+use rasterize::Spot;
 use rasterize::View;
 
 // The edge from point k of a contour's n points, as placed, to the next one; from the last, to the first.
@@ -33,6 +42,179 @@ pub fn edge_from(points: &[i64], placement: Placement, n: usize, k: usize) -> Ed
         x1: to.x,
         y1: to.y,
     }
+}
+
+// ---- runs
+//
+// Neighbouring edges of a contour often lie in one small cell. In every cell above that one they lie in the same quarter, where what an edge adds is a
+// polynomial of its ends. So for these cells a run of such edges, one after the other, is its chord, from its first point to its last, and the area between
+// the two:
+//
+//          .--.            Each edge of a run adds in the cell and below; all of them together add once in each cell above: the chord's details, and the area,
+//       .-'    `.          which h has with the sign of the half that it lies in, left or right, v with that of above or below, and d with both. The sum of
+//      o--------->o        the edges' root terms less the chord's is twice that area.
+
+// How many levels a run's cell is above a pixel: it is four pixels wide. In a wider one runs would be longer, but each edge would add on more levels.
+const RUN_LEVELS: usize = 2;
+
+// How wide that is, in steps.
+const RUN_WIDTH: i64 = 1024;
+
+// The most edges of a run, so that its area is small.
+const LONGEST_RUN: usize = 64;
+
+// How far a run has come: the edges before `next` have been added in the run's cell and below, and end at (x, y). `sum` has their root terms.
+struct Run {
+    next: usize,
+    x: i64,
+    y: i64,
+    sum: i64,
+}
+
+// Do p and q lie in range n, each range being as wide as a run's cell, its ends with it?
+fn lie_in(p: i64, q: i64, n: usize) -> bool
+    requires { ⌜ n < greatestSide ⌝ }
+    ensures { λ b. ⌜ Decides b (OnRange (pos (n * widestRun)) (pos widestRun) p × OnRange (pos (n * widestRun)) (pos widestRun) q) ⌝ }
+{
+    let side = n as i64 * RUN_WIDTH;
+    let end = side + RUN_WIDTH;
+    integers::is_within(p, side, end) && integers::is_within(q, side, end)
+}
+
+// Does the edge lie on a run's cell?
+fn lies_on_cell(e: Edge, c: Spot) -> bool
+    requires { ⌜ (c .x < greatestSide) × (c .y < greatestSide) × Measured e ⌝ }
+    ensures { λ b. ⌜ Decides b (OnCell (runSquare c) e) ⌝ }
+{
+    lie_in(e.x0, e.x1, c.x) && lie_in(e.y0, e.y1, c.y)
+}
+
+// The cell in which a run from the edge's first point on would lie. It may be no cell of the tile.
+fn cell_from(e: Edge, depth: usize) -> Spot
+    requires { ⌜ runLevels ≤ depth ⌝ }
+    ensures { λ c. ⌜ c .level + runLevels ≡ depth ⌝ }
+{
+    let x = integers::magnitude(e.x0) as usize;
+    let y = integers::magnitude(e.y0) as usize;
+    Spot {
+        level: depth - RUN_LEVELS,
+        x: x / RUN_WIDTH as usize,
+        y: y / RUN_WIDTH as usize,
+    }
+}
+
+// Is it a cell of the tile?
+fn is_cell(c: Spot) -> bool
+    requires { ⌜ c .level ≤ greatestDepth ⌝ }
+    ensures { λ b. ⌜ Decides b ((c .x < 2 ^ c .level) × (c .y < 2 ^ c .level)) ⌝ }
+{
+    let across = haar::cells_across(c.level);
+    c.x < across && c.y < across
+}
+
+// z, and in the second half -z.
+fn signed_in(z: i64, half: usize) -> i64
+    requires { ⌜ Within (pos (2 ^ 40)) z × (half < 2) ⌝ }
+    ensures { λ r. ⌜ r ≡ halfSign half *ℤ z ⌝ }
+{
+    if half == 0 { z } else { -z }
+}
+
+// How far p and q, both in one half of range n, each range being w wide, lie from the side of that half, added up.
+fn from_side(p: i64, q: i64, n: usize, w: i64, half: usize) -> i64
+    requires { ⌜ Within (pos greatestCoordinate) p × Within (pos greatestCoordinate) q × (n < greatestSide) × Within (pos greatestCoordinate) w × (half < 2) ⌝ }
+    ensures { λ r. ⌜ r ≡ fromHalf half (pos n *ℤ w) w p q ⌝ }
+{
+    if half == 0 {
+        p + q - (2 * n) as i64 * w
+    } else {
+        (2 * n + 2) as i64 * w - (p + q)
+    }
+}
+
+// The cell of the level above that has a cell in it.
+fn parent_of(c: Spot) -> Spot
+    requires { ⌜ 0 < c .level ⌝ }
+    ensures { λ r. ⌜ r ≡ parentSpot c ⌝ }
+{
+    Spot {
+        level: c.level - 1,
+        x: c.x / 2,
+        y: c.y / 2,
+    }
+}
+
+// What a chord and an area, both in quarter (i, j) of a cell that is w wide, add to the cell's details.
+fn details_above(e: Edge, area: i64, c: Spot, w: i64, i: usize, j: usize) -> Details
+    requires { ⌜ SmallEdge e × Within (pos (longestRun * triangleLimit)) area × (c .x < greatestSide) × (c .y < greatestSide) × Within (pos greatestCoordinate) w × (i < 2) × (j < 2) ⌝ }
+    ensures { λ r. ⌜ r ≡ withArea (detailsIn e (squareAt c w) i j) area i j ⌝ }
+{
+    let across = from_side(e.x0, e.x1, c.x, w, i) * (e.y1 - e.y0);
+    let down = from_side(e.y0, e.y1, c.y, w, j) * (e.x1 - e.x0);
+    let h = across + signed_in(area, i);
+    Details {
+        h: h,
+        v: signed_in(area, j) - down,
+        d: signed_in(h, j),
+    }
+}
+
+// Adds a chord and an area, both in a run's cell, to each cell above it.
+fn add_above(table: &mut [i64], e: Edge, area: i64, c: Spot, depth: usize)
+    requires { ⌜ AboveReady (now table) e area depth c ⌝ }
+    ensures { λ _. ⌜ now (table .exit) ≡ added (now (table .entry)) (above e area depth (c .level) (c .x) (c .y)) ⌝ }
+{
+    let mut p = c;
+    let mut w = RUN_WIDTH;
+    while 0 < p.level {
+        let i = p.x % 2;
+        let j = p.y % 2;
+        p = parent_of(p);
+        w = w + w;
+        let s = details_above(e, area, p, w, i, j);
+        rasterize::add_details(table, haar::first_detail(p.level, p.x, p.y), s);
+    }
+}
+
+// Adds edges from edge k on, as long as they lie on a run's cell, there and below.
+fn add_along(
+    table: &mut [i64],
+    points: &[i64],
+    placement: Placement,
+    n: usize,
+    k: usize,
+    c: Spot,
+    depth: usize,
+) -> Run
+    requires { ⌜ RunReady (now table) (placed placement (now points)) depth k c × (n ≡ length (now points) / 2) × (placeable placement (now points) ≡ true) ⌝ }
+    ensures { λ r. ⌜ Along depth (placed placement (now (points .entry))) k c (now (table .entry)) (now (table .exit)) r ⌝ }
+{
+    let first = edge_from(points, placement, n, k);
+    let end = if n - k < LONGEST_RUN {
+        n
+    } else {
+        k + LONGEST_RUN
+    };
+    let mut r = Run {
+        next: k,
+        x: first.x0,
+        y: first.y0,
+        sum: 0,
+    };
+    while r.next < end {
+        let e = edge_from(points, placement, n, r.next);
+        if !lies_on_cell(e, c) {
+            return r;
+        }
+        rasterize::add_within(table, e, c, depth);
+        r = Run {
+            next: r.next + 1,
+            x: e.x1,
+            y: e.y1,
+            sum: r.sum + rasterize::root_term(e),
+        };
+    }
+    r
 }
 
 // Adds the edges of a contour, given by its own points, as placed.

@@ -175,7 +175,7 @@ fn seen_by(view: View, e: Edge) -> Edge
 }
 
 // The edge's term of the signed area.
-fn root_term(e: Edge) -> i64
+pub fn root_term(e: Edge) -> i64
     requires { ⌜ Measured e ⌝ }
     ensures { λ r. ⌜ r ≡ rootTerm e ⌝ }
 {

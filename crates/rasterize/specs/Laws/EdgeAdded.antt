@@ -72,6 +72,18 @@ visits-mono zero n h = omega arith
 visits-mono (suc m) zero h = absurd (omega arith)
 visits-mono (suc m) (suc n) h = omega (arith, visits-mono m n (omega arith))
 
+-- an entry is the root's part or a detail
+pub edge-entry : (view : View) (depth : ℕ) (e : Edge) (i : ℕ) → i < children dimensions ^ depth
+    → atRoot (rootPart view depth e) i +ℤ contribution e depth (nodeAt depth 0 0 0) i ≡ entryOf depth (seenTable view depth e) i
+edge-entry view depth e zero h =
+    let root = rootPart view depth e in
+    let plain : root +ℤ pos 0 ≡ root = ring (root ∷ []) (search read depth 40) tt in
+    ap (λ z. root +ℤ z) (contribution-root e depth (nodeAt depth 0 0 0)) ∙ plain ∙ sym (entries-root dimensions depth (seenTable view depth e))
+edge-entry view depth e (suc i) h =
+    let below = contribution e depth (nodeAt depth 0 0 0) (suc i) in
+    let plain : pos 0 +ℤ below ≡ below = ring (below ∷ []) (search read depth 40) tt in
+    plain ∙ edge-entries (rootPart view depth e) e depth (suc i) (omega arith) h
+
 module _ {t : List ℤ} {view : View} {depth : ℕ} {e : Edge} (fits : Fits t depth 1) (v : Seen view depth e) where
   abbrev root : ℤ
   root = rootPart view depth e
@@ -102,18 +114,8 @@ module _ {t : List ℤ} {view : View} {depth : ℕ} {e : Edge} (fits : Fits t de
         on-sheet = v .on-sheet;
       }
 
-  -- an entry is the root's part or a detail
-  pub edge-entry : (i : ℕ) → i < length t → atRoot root i +ℤ contribution e depth (nodeAt depth 0 0 0) i ≡ entryOf depth (seenTable view depth e) i
-  edge-entry zero h =
-      let plain : root +ℤ pos 0 ≡ root = ring (root ∷ []) (search read depth 40) tt in
-      ap (λ z. root +ℤ z) (contribution-root e depth (nodeAt depth 0 0 0)) ∙ plain ∙ sym (entries-root dimensions depth (seenTable view depth e))
-  edge-entry (suc i) h =
-      let below = contribution e depth (nodeAt depth 0 0 0) (suc i) in
-      let plain : pos 0 +ℤ below ≡ below = ring (below ∷ []) (search read depth 40) tt in
-      plain ∙ edge-entries root e depth (suc i) (omega arith) (omega (arith, fits .exact))
-
   -- both parts together
   pub edge-added : {u : List ℤ} → u ≡ added rooted (contribution e depth (nodeAt depth 0 0 0)) → u ≡ added t (entryOf depth (seenTable view depth e))
   edge-added {u} q =
       let below = contribution e depth (nodeAt depth 0 0 0) in
-      q ∙ ap (λ l. added l below) (rooted-added t root root-inside) ∙ added-both t (atRoot root) below (entryOf depth (seenTable view depth e)) edge-entry
+      q ∙ ap (λ l. added l below) (rooted-added t root root-inside) ∙ added-both t (atRoot root) below (entryOf depth (seenTable view depth e)) (λ i h. edge-entry view depth e i (omega (arith, fits .exact)))
