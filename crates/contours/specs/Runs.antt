@@ -16,9 +16,11 @@
 --   detailsIn e s i j                    the details of an edge in quarter (i, j) of a square
 --   AboveReady t e a depth c             what adding a chord and an area in the cells above a run's cell asks for
 --   RunReady t points depth k c          what a run from edge k on asks for
+--   NextReady view t points depth k      what adding edge k, and edges after it, asks for
+--   HasRuns b view sign depth            if b says so, edges are added in runs
 --   Along depth points k c before t r    a run has come so far: once its chord and its area are added above its cell, its edges are added
 use mathlib.Core.Path.{_≡_}
-use mathlib.Core.Bool.{cond}
+use mathlib.Core.Bool.{Bool, true, cond}
 use mathlib.Core.List.{List}
 use Prim.Native.Nat.{ℕ, zero, suc, _+_, _*_, _-_, _/_, _%_, _^_, _<_, _≤_}
 use lib.Dec.{ltb}
@@ -42,10 +44,11 @@ use Rattle.accuracy.specs.Outline.{Point, pointsOf, pointAt, edgeBetween, conto
 use Rattle.rasterize.specs.declared.Node.{Node}
 use Rattle.rasterize.specs.declared.Spot.{Spot}
 use Rattle.rasterize.specs.Nodes.{nodeAt}
+use Rattle.rasterize.specs.declared.View.{View}
 use Rattle.rasterize.specs.declared.View.the-variants.{Alone}
 use Rattle.rasterize.specs.Added.{added}
 use Rattle.rasterize.specs.Contribution.{firstDetail, ownPart}
-use Rattle.rasterize.specs.Ready.{visits, Spare}
+use Rattle.rasterize.specs.Ready.{visits, Spare, Fits}
 use Rattle.rasterize.specs.Views.{InView}
 use Rattle.contours.specs.declared.Run.{Run}
 use Rattle.contours.specs.Contour.{edgeOf, edgesFrom}
@@ -143,6 +146,16 @@ pub record RunReady (t points : List ℤ) (depth k : ℕ) (c : Spot) : Type 0 wh
   pub in-view : All (InView Alone depth) (contourEdges (pointsOf points))
   pub on : OnCell (runSquare c) (edgeOf points (length points / 2) k)
   pub spare : Spare t (visits greatestDepth)
+
+pub record NextReady (view : View) (t points : List ℤ) (depth k : ℕ) : Type 0 where
+  pub from : k < length points / 2
+  pub fits : Fits t depth (length points / 2 - k)
+  pub in-view : All (InView view depth) (contourEdges (pointsOf points))
+
+pub record HasRuns (b : Bool) (view : View) (sign : ℤ) (depth : ℕ) : Type 0 where
+  pub alone : b ≡ true → view ≡ Alone
+  pub adds : b ≡ true → sign ≡ pos 1
+  pub deep : b ≡ true → runLevels ≤ depth
 
 -- the point at which the edges before edge k end: after the last edge, the first point
 abbrev pub reached : List ℤ → ℕ → Point

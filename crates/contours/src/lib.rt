@@ -4,7 +4,7 @@
 // each is fetched, placed, when an edge that begins or ends there is made, so that no list of placed points is kept.
 ghost use mathlib.Core.Path.{_≡_};
 ghost use mathlib.Core.Bool.{true};
-ghost use Prim.Native.Nat.{_+_, _*_, _/_, _^_, _<_, _≤_};
+ghost use Prim.Native.Nat.{_+_, _*_, _-_, _/_, _^_, _<_, _≤_};
 ghost use lib.ListN.{length};
 ghost use lib.IntN.{pos, _*ℤ_};
 ghost use Rattle.integers.specs.Within.{Within};
@@ -19,8 +19,9 @@ ghost use Rattle.placement.specs.Placed.{placeable, placed};
 ghost use Rattle.rasterize.specs.Added.{added, entryOf};
 ghost use Rattle.rasterize.specs.Ready.{Fits};
 ghost use Rattle.rasterize.specs.Views.{viewTable, InView};
-ghost use Rattle.contours.specs.Contour.{edgeOf};
-ghost use Rattle.contours.specs.Runs.{runLevels, widestRun, longestRun, triangleLimit, runSquare, squareAt, parentSpot, withArea, fromHalf, detailsIn, above, AboveReady, RunReady, Along};
+ghost use Rattle.contours.specs.Contour.{edgeOf, edgesFrom};
+ghost use Rattle.rasterize.specs.declared.View.the-variants.{Alone};
+ghost use Rattle.contours.specs.Runs.{runLevels, widestRun, longestRun, triangleLimit, runSquare, squareAt, parentSpot, withArea, fromHalf, detailsIn, above, AboveReady, RunReady, NextReady, HasRuns, Along};
 ghost use Rattle.contours.specs.Laws.RunCells.{SmallEdge};
 use edge::Details;
 use edge::Edge;
@@ -187,7 +188,7 @@ fn add_along(
     depth: usize,
 ) -> Run
     requires { ⌜ RunReady (now table) (placed placement (now points)) depth k c × (n ≡ length (now points) / 2) × (placeable placement (now points) ≡ true) ⌝ }
-    ensures { λ r. ⌜ Along depth (placed placement (now (points .entry))) k c (now (table .entry)) (now (table .exit)) r ⌝ }
+    ensures { λ r. ⌜ Along depth (placed placement (now (points .entry))) k c (now (table .entry)) (now (table .exit)) r × (k < r .next) ⌝ }
 {
     let first = edge_from(points, placement, n, k);
     let end = if n - k < LONGEST_RUN {
@@ -217,6 +218,86 @@ fn add_along(
     r
 }
 
+// Adds a run from edge k on. Answers the edge after it.
+fn add_run(
+    table: &mut [i64],
+    points: &[i64],
+    placement: Placement,
+    n: usize,
+    k: usize,
+    c: Spot,
+    depth: usize,
+) -> usize
+    requires { ⌜ RunReady (now table) (placed placement (now points)) depth k c × (n ≡ length (now points) / 2) × (placeable placement (now points) ≡ true) ⌝ }
+    ensures { λ r. ⌜ (k < r) × (r ≤ n) × (now (table .exit) ≡ added (now (table .entry)) (edgesFrom Alone depth (placed placement (now (points .entry))) k (r - k))) ⌝ }
+{
+    let first = edge_from(points, placement, n, k);
+    let r = add_along(table, points, placement, n, k, c, depth);
+    let chord = Edge {
+        x0: first.x0,
+        y0: first.y0,
+        x1: r.x,
+        y1: r.y,
+    };
+    let area = r.sum - rasterize::root_term(chord);
+    add_above(table, chord, area, c, depth);
+    r.next
+}
+
+// Adds a run from edge k on, and if that edge lies on no one cell of a run, the edge. Answers the edge after them.
+fn add_some(
+    table: &mut [i64],
+    points: &[i64],
+    placement: Placement,
+    n: usize,
+    k: usize,
+    depth: usize,
+) -> usize
+    requires { ⌜ NextReady Alone (now table) (placed placement (now points)) depth k × (runLevels ≤ depth) × (n ≡ length (now points) / 2) × (placeable placement (now points) ≡ true) ⌝ }
+    ensures { λ r. ⌜ (k < r) × (r ≤ n) × (now (table .exit) ≡ added (now (table .entry)) (edgesFrom Alone depth (placed placement (now (points .entry))) k (r - k))) ⌝ }
+{
+    let e = edge_from(points, placement, n, k);
+    let c = cell_from(e, depth);
+    if is_cell(c) {
+        if lies_on_cell(e, c) {
+            return add_run(table, points, placement, n, k, c, depth);
+        }
+    }
+    rasterize::add_edge(table, e, View::Alone, 1, depth);
+    k + 1
+}
+
+// Are a contour's edges added in runs? Those of a tile alone are, where there are levels above the runs' cells; a contour is taken out edge by edge.
+fn has_runs(view: View, sign: i64, depth: usize) -> bool
+    ensures { λ b. ⌜ HasRuns b view sign depth ⌝ }
+{
+    match view {
+        View::Alone => sign == 1 && RUN_LEVELS < depth,
+        View::From(_) => false,
+    }
+}
+
+// Adds edge k, and the edges after it if they are added in runs. Answers the edge after them.
+fn add_next(
+    table: &mut [i64],
+    points: &[i64],
+    placement: Placement,
+    view: View,
+    sign: i64,
+    depth: usize,
+    n: usize,
+    k: usize,
+) -> usize
+    requires { ⌜ NextReady view (now table) (placed placement (now points)) depth k × (n ≡ length (now points) / 2) × Within (pos 1) sign × (placeable placement (now points) ≡ true) ⌝ }
+    ensures { λ r. ⌜ (k < r) × (r ≤ n) × (now (table .exit) ≡ added (now (table .entry)) (λ i. sign *ℤ edgesFrom view depth (placed placement (now (points .entry))) k (r - k) i)) ⌝ }
+{
+    if has_runs(view, sign, depth) {
+        return add_some(table, points, placement, n, k, depth);
+    }
+    rasterize::add_edge(table, edge_from(points, placement, n, k), view, sign, depth);
+    k + 1
+}
+
 // Adds the edges of a contour, given by its own points, as placed.
 pub fn add_contour(
     table: &mut [i64],
@@ -230,8 +311,9 @@ pub fn add_contour(
     ensures { λ _. ⌜ now (table .exit) ≡ added (now (table .entry)) (λ i. sign *ℤ entryOf depth (viewTable view depth (contourEdges (pointsOf (placed placement (now (points .entry)))))) i) ⌝ }
 {
     let n = points.len() / 2;
-    for k in 0..n {
-        rasterize::add_edge(table, edge_from(points, placement, n, k), view, sign, depth);
+    let mut k = 0;
+    while k < n {
+        k = add_next(table, points, placement, view, sign, depth, n, k);
     }
 }
 

@@ -8,7 +8,8 @@ use lib.Pow.{pow-mono}
 use lib.ListN.{length}
 use lib.IntN.{ℤ, pos, _+ℤ_}
 use borrow.Author.Needs.{needs}
-use borrow.Author.Tests.{not-false}
+use native.Mathlib.Decide.{decLt}
+use borrow.Author.Tests.{not-false, not-true}
 use Rattle.integers.specs.Units.{greatestDepth, greatestSide, detailLimit}
 use Rattle.integers.specs.Within.{Within, within-le}
 use Rattle.integers.specs.Order.{pos-≤ℤ}
@@ -33,6 +34,7 @@ use Rattle.contours.proofs.add_along.Tie as tie
 -- `end` is where the run ends at the latest
 record InRun (depth : ℕ) (points : List ℤ) (n k : ℕ) (c : Spot) (end : ℕ) (before table : List ℤ) (r : Run) : Type 0 where
   along : Along depth points k c before table r
+  some : k < end
   last : end ≤ n
   longest : end ≤ k + longestRun
 
@@ -69,6 +71,7 @@ loop-holds c =
     let m = run-measured (ready s) (ready s .from) (numbered s (s .args .k) (e .edge-from .ensures)) in
     record {
       along = along-start (ready s) (numbered s (s .args .k) (e .edge-from .ensures)) (ap₂ (λ x y. record { next = s .args .k; x = x; y = y; sum = pos 0 }) (back-is tt (m .x0)) (back-is tt (m .y0)));
+      some = ⊎-elim (λ w. omega (arith, w .1, from s)) (λ w. omega (arith, w .1)) (c .before .if1 .came);
       last = ⊎-elim (λ w. omega (arith, w .1)) (λ w. omega (arith, w .0 .left, w .1)) (c .before .if1 .came);
       longest = ⊎-elim (λ w. omega (arith, w .0 .taken, w .1, from s)) (λ w. omega (arith, w .1)) (c .before .if1 .came);
     }
@@ -144,6 +147,19 @@ module _ (c : tie.After-struct-told2 Inv-loop μ-loop) where
   sum = held-add {a = longestRun * detailLimit} (held-number tt (within-le (pos-≤ℤ (omega (arith, few))) (along .sums)))
       (record { is = root-is; within = along-small (ready (s d)) along (inside d) (edge-is d) (on-cell way) })
 
+-- the first edge lies on the cell, so a later one does not
+moved-on : (c : tie.Then3 Inv-loop μ-loop) → (let i = c .before .before .before .before .before in entered i .args .k < i .loop .r .next)
+moved-on c =
+    let d = c .before .before in
+    let i = here d in
+    let z = s d in
+    let out : OnCell (runSquare (z .args .c)) (d .edge-from2 .result) → ⊥ = c .before .lies-on-cell .ensures .no (not-true _ (c .if3 .taken)) in
+    elim (decLt (z .args .k) (i .loop .r .next)) [
+      | yes h ↦ h
+      | no h ↦ (let same : z .args .k ≡ i .loop .r .next = omega (arith, i .loop .inv .along .from) in
+          absurd (out (subst⁻¹ (OnCell (runSquare (z .args .c))) (edge-is d) (subst (λ m. OnCell (runSquare (z .args .c)) (edgeOf (points z) (length (points z) / 2) m)) same (ready z .on)))))
+    ]
+
 -- the run, one edge longer
 module _ (c : tie.After-struct-told3 Inv-loop μ-loop) where
   abbrev u : tie.After-struct-told2 Inv-loop μ-loop
@@ -166,6 +182,7 @@ loop-again c =
           (c .before .before .before .before .before .before .add-within .ensures)
           (ap₂ (λ x y. record { next = r v .next + 1; x = x; y = y; sum = back (back (r v .sum) +ℤ back (v .before .before .root-term .result)) }) (back-is tt (m .x1)) (back-is tt (m .y1))
           ∙ ap (λ n. record { next = r v .next + 1; x = e .edge-from2 .result .x1; y = e .edge-from2 .result .y1; sum = n }) (held-back tt (sum v) .is));
+      some = here e .loop .inv .some;
       last = here e .loop .inv .last;
       longest = here e .loop .inv .longest;
     }
@@ -183,7 +200,7 @@ add-along-spec =
     edge-from-requires-2
     lies-on-cell-requires
     (λ c. let i = c .before .before .before .before .before in along-long (ready (entered i)) (i .loop .inv .along))
-    (λ c. c .before .before .before .before .before .loop .inv .along)
+    (λ c. (c .before .before .before .before .before .loop .inv .along, moved-on c))
     add-within-requires
     (λ c. let e = edge (c .before .before .before .before) in let f = s e .fits .n in record { fits = omega (arith, f .fits, inside e, count (s e)) })
     (λ c κs. let e = edge (c .before .before .before .before) in run-measured (ready (s e)) (inside e) (edge-is e))
@@ -191,4 +208,4 @@ add-along-spec =
     loop-less
     loop-again
     (λ c. let i = c .before .before in along-long (ready (entered i)) (i .loop .inv .along))
-    (λ c. c .before .before .loop .inv .along))
+    (λ c. let i = c .before .before in (i .loop .inv .along, omega (arith, i .loop .inv .some, c .if2 .left))))

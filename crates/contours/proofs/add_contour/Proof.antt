@@ -1,11 +1,10 @@
--- Edge by edge.
-use mathlib.Core.Path.{_≡_, sym, _∙_, ap, subst, subst⁻¹}
+-- Edge by edge, or run by run.
+use mathlib.Core.Path.{_≡_, refl, sym, _∙_, ap, subst, subst⁻¹}
 use Prim.Native.Nat.{_-_, _/_, _<_}
 use native.Mathlib.Nat.{le-of-eq, le-trans}
 use lib.ListN.{length}
 use Rattle.placement.specs.Placed.{placed}
 use Rattle.placement.specs.Laws.PlacedPoints.{placed-length}
-use Rattle.contours.specs.Contour.{edgeOf}
 use Rattle.rasterize.specs.Laws.Fitting.{fits-le}
 use native.Mathlib.Omega.{arith}
 use mir.Syntax.{w64}
@@ -15,7 +14,7 @@ use Rattle.integers.specs.Held.{held-number, held-within}
 use Rattle.accuracy.specs.Outline.{pointsOf, contourEdges}
 use Rattle.rasterize.specs.Added.{added}
 use Rattle.rasterize.specs.Laws.Sums.{edgesPart}
-use Rattle.contours.proofs.ContourLoop.{ContourLoop, contour-start, contour-edge, contour-step, contour-asks, contour-end}
+use Rattle.contours.proofs.ContourLoop.{ContourLoop, contour-start, contour-step, contour-end}
 use Rattle.contours.proofs.add_contour.Statement.{statement}
 use Rattle.contours.proofs.add_contour.Tie as tie
 
@@ -32,43 +31,25 @@ halves s = ap (λ n. n / 2) (placed-length (s .args .placement) (s .args .points
 loop-holds : tie.Need-loop-holds Inv-loop μ-loop
 loop-holds c = contour-start (back (c .args .sign)) (fits-le (le-of-eq (halves c)) (c .pre .0))
 
-edge-from-requires : tie.Need-edge-from-requires Inv-loop μ-loop
-edge-from-requires c κs = (c .before .loop-test .taken, omega arith, c .before .before .before .pre .3)
-
-inside : (i : tie.In-loop Inv-loop μ-loop) → (let a = i .before .before .args in i .before .loop .k < length (placed (a .placement) (a .points .now)) / 2)
+-- some edges are left
+inside : (i : tie.In-loop Inv-loop μ-loop) → (let s = i .before .before in i .before .loop .k < length (placed (s .args .placement) (s .args .points .now)) / 2)
 inside i = subst⁻¹ (λ n. i .before .loop .k < n) (halves (i .before .before)) (i .loop-test .taken)
 
-is-edge : (c : tie.After-edge-from Inv-loop μ-loop)
-    → (let i = c .before .before in
-    let l = placed (i .before .before .args .placement) (i .before .before .args .points .now) in
-    c .edge-from .result ≡ edgeOf l (length l / 2) (i .before .loop .k))
-is-edge c =
-    let i = c .before .before in
-    let l = placed (i .before .before .args .placement) (i .before .before .args .points .now) in
-    c .edge-from .ensures ∙ ap (λ n. edgeOf l n (i .before .loop .k)) (sym (halves (i .before .before)))
-
-add-edge-requires : tie.Need-add-edge-requires Inv-loop μ-loop
-add-edge-requires c κs =
-    let i = c .before .before in
-    let s = i .before .before in (
-      contour-asks (i .before .loop .inv) (inside i),
-      contour-edge (placed (s .args .placement) (s .args .points .now)) (s .pre .1) (inside i) (is-edge c),
-      held-within (held-number tt (s .pre .2)),
-    )
-
-add-k : tie.Need-add-k Inv-loop μ-loop
-add-k c = omega (arith, c .before .before .before .before .loop-test .taken)
+add-next-requires : tie.Need-add-next-requires Inv-loop μ-loop
+add-next-requires c κs =
+    let i = c .before in
+    let s = i .before .before in
+    (record { from = inside i; fits = i .before .loop .inv .fits; in-view = s .pre .1 }, refl, held-within (held-number tt (s .pre .2)), s .pre .3)
 
 loop-less : tie.Need-loop-less Inv-loop μ-loop
-loop-less c = omega (arith, c .before .before .before .before .loop-test .taken)
+loop-less c = let a = c .before .add-next .ensures in omega (arith, a .0, a .1)
 
 loop-again : tie.Need-loop-again Inv-loop μ-loop
 loop-again c =
-    let e = c .before .before in
-    let i = e .before .before in
+    let i = c .before .before .before in
     let s = i .before .before in
-    contour-step (placed (s .args .placement) (s .args .points .now)) (s .pre .1) (inside i) (is-edge e) (held-within (held-number tt (s .pre .2))) (i .before .loop .inv)
-    (c .before .add-edge .ensures)
+    let a = c .before .add-next .ensures in
+    contour-step (s .pre .1) (held-within (held-number tt (s .pre .2))) (omega (arith, a .0)) (omega (arith, a .1, halves s)) (i .before .loop .inv) (a .2)
 
 same-length : tie.Need-same-length Inv-loop μ-loop
 same-length c = c .before .loop .inv .fits .exact ∙ sym (c .before .before .pre .0 .exact)
@@ -80,16 +61,4 @@ returns c =
     (back-is tt (s .pre .2)) (contour-end (c .before .loop .inv) (le-trans (le-of-eq (halves s)) (c .loop-test .left)))
 
 pub add-contour-spec : {M : Type 1} → statement M
-add-contour-spec =
-    tie.close
-    (tie.spec
-    Inv-loop
-    μ-loop
-    loop-holds
-    edge-from-requires
-    add-edge-requires
-    add-k
-    loop-less
-    loop-again
-    same-length
-    returns)
+add-contour-spec = tie.close (tie.spec Inv-loop μ-loop loop-holds add-next-requires loop-less loop-again same-length returns)

@@ -2,6 +2,7 @@
 --
 -- Main results
 --   fits-le                      room for more edges is room for fewer
+--   fits-added                   what is left of it after additions of m edges' size
 --   fits-edge, fits-edges        what is left of it after one edge, and after all edges of a list
 use mathlib.Core.Path.{_∙_, subst}
 use mathlib.Core.List.{List}
@@ -24,7 +25,7 @@ use Rattle.rasterize.specs.Laws.Sums.{edgesPart, edge-entry-within, outl
 pub fits-le : {t : List ℤ} {depth m n : ℕ} → n ≤ m → Fits t depth m → Fits t depth n
 fits-le h f = record { shallow = f .shallow; exact = f .exact; spare = spare-le (omega arith) (f .spare) }
 
-fits-added : {t : List ℤ} {depth : ℕ} (m n : ℕ) (g : ℕ → ℤ) → ((i : ℕ) → Within (pos (m * detailLimit)) (g i)) → Fits t depth (m + n)
+pub fits-added : {t : List ℤ} {depth : ℕ} (m n : ℕ) (g : ℕ → ℤ) → ((i : ℕ) → Within (pos (m * detailLimit)) (g i)) → Fits t depth (m + n)
     → Fits (added t g) depth n
 fits-added {t} m n g w f = record {
   shallow = f .shallow;
