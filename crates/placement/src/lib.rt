@@ -220,12 +220,17 @@ fn moved(p: Placement, x: i64, y: i64) -> Point
     }
 }
 
-// Point k of an outline, as placed.
+// Point k of an outline, as placed. Where nothing is moved, that is the point itself, and no call is made: so small, the function is put into its callers.
 pub fn point_at(p: Placement, points: &[i64], k: usize) -> Point
     requires { ⌜ (2 * k + 1 < length (now points)) × (placeable p (now points) ≡ true) ⌝ }
     ensures { λ q. ⌜ (q .x ≡ getD (placed p (now (points .entry))) (2 * k) (pos 0)) × (q .y ≡ getD (placed p (now (points .entry))) (2 * k + 1) (pos 0)) ⌝ }
 {
-    moved(p, points[2 * k], points[2 * k + 1])
+    let across = points[2 * k];
+    let down = points[2 * k + 1];
+    match p {
+        Placement::None => Point { x: across, y: down },
+        _ => moved(p, across, down),
+    }
 }
 
 // ---- question 6, which is decided on the placed points
@@ -237,8 +242,8 @@ fn is_point_within(q: Point, low: i64, high: i64) -> bool
     integers::is_within(q.x, low, high) && integers::is_within(q.y, low, high)
 }
 
-// Is every coordinate of the placed points from low to high?
-pub fn all_placed_within(p: Placement, points: &[i64], low: i64, high: i64) -> bool
+// Is every coordinate of the placed points from low to high? One point after the other is fetched and placed.
+fn all_moved_within(p: Placement, points: &[i64], low: i64, high: i64) -> bool
     requires { ⌜ (length (now points) % 2 ≡ 0) × (placeable p (now points) ≡ true) ⌝ }
     ensures { λ b. ⌜ b ≡ every (between low high) (placed p (now (points .entry))) ⌝ }
 {
@@ -251,4 +256,15 @@ pub fn all_placed_within(p: Placement, points: &[i64], low: i64, high: i64) -> b
         k += 1;
     }
     true
+}
+
+// The same. Without a placement the coordinates are the points themselves, and none needs to be fetched through it.
+pub fn all_placed_within(p: Placement, points: &[i64], low: i64, high: i64) -> bool
+    requires { ⌜ (length (now points) % 2 ≡ 0) × (placeable p (now points) ≡ true) ⌝ }
+    ensures { λ b. ⌜ b ≡ every (between low high) (placed p (now (points .entry))) ⌝ }
+{
+    match p {
+        Placement::None => integers::all_within(points, low, high),
+        _ => all_moved_within(p, points, low, high),
+    }
 }
