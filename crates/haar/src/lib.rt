@@ -74,8 +74,15 @@ pub fn first_detail(level: usize, x: usize, y: usize) -> usize
     requires { ⌜ (level < greatestDepth) × (x < 2 ^ level) × (y < 2 ^ level) ⌝ }
     ensures { λ r. ⌜ r ≡ index dimensions level (at x y) hDetail ⌝ }
 {
-    let n = cells_across(level);
-    n * n + DETAILS * (y * n + x)
+    first_detail_across(level, cells_across(level), x, y)
+}
+
+// The same where the number of cells across, n, is known. `level` is for the contract alone.
+pub fn first_detail_across(level: usize, n: usize, x: usize, y: usize) -> usize
+    requires { ⌜ (level < greatestDepth) × (n ≡ 2 ^ level) × (x < 2 ^ level) × (y < 2 ^ level) ⌝ }
+    ensures { λ r. ⌜ r ≡ index dimensions level (at x y) hDetail ⌝ }
+{
+    n * (n + DETAILS * y) + DETAILS * x
 }
 
 // A level's scale with the sign that v has in row cy of the next level: plus in the upper half of a cell, minus in the lower half.

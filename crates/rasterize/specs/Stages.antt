@@ -1,4 +1,5 @@
--- A cell on the way down, as the loop has it: where its square lies is left out, and how far the edge's ends lie before its middles is in.
+-- A cell on the way down, as the loop has it: where its square lies is left out; how many cells its level has across, and how far the edge's ends lie
+-- before its middles, is in.
 --
 -- Definitions
 --   stageAt e c                  cell c, for an edge
@@ -22,6 +23,7 @@ use Rattle.rasterize.specs.Nodes.{nodeAt}
 abbrev pub stageAt : Edge → Node → Stage
 stageAt e c = record {
   level = c .level;
+  across = 2 ^ c .level;
   x = c .x;
   y = c .y;
   width = natAbs (c .square .width);
@@ -32,6 +34,7 @@ stageAt e c = record {
 abbrev pub quarterStage : Stage → Stage
 quarterStage p = record {
   level = suc (p .level);
+  across = 2 * p .across;
   x = 2 * p .x + halfWith (p .left);
   y = 2 * p .y + halfWith (p .above);
   width = p .width / 2;
@@ -50,6 +53,7 @@ stageNode p = record {
 
 pub record StageRoom (p : Stage) : Type 0 where
   pub shallow : p .level ≤ greatestDepth
+  pub across : p .across ≡ 2 ^ p .level
   pub x-below : p .x < 2 ^ p .level
   pub y-below : p .y < 2 ^ p .level
   pub wide : p .width ≤ coordinateLimit

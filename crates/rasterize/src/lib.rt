@@ -66,10 +66,11 @@ pub struct Spot {
     pub y: usize,
 }
 
-// A cell on the way down to the smallest one that an edge lies in: its level, numbers and width, and how far both ends of the edge lie to the left of its
-// middle and above it, added up. Where the cell lies is not needed on the way.
+// A cell on the way down to the smallest one that an edge lies in: its level, how many cells the level has across, its numbers and width, and how far both
+// ends of the edge lie to the left of its middle and above it, added up. Where the cell lies is not needed on the way.
 struct Stage {
     level: usize,
+    across: usize,
     x: usize,
     y: usize,
     width: usize,
@@ -323,6 +324,7 @@ fn first_stage(e: Edge, depth: usize) -> Stage
     let right = width as i64;
     Stage {
         level: 0,
+        across: 1,
         x: 0,
         y: 0,
         width: width,
@@ -348,6 +350,7 @@ fn cell_stage(e: Edge, c: Spot, depth: usize) -> Stage
     let w = width as i64;
     Stage {
         level: c.level,
+        across: haar::cells_across(c.level),
         x: c.x,
         y: c.y,
         width: width,
@@ -373,6 +376,7 @@ fn quarter_stage(p: Stage) -> Stage
     let right = half as i64;
     Stage {
         level: p.level + 1,
+        across: 2 * p.across,
         x: 2 * p.x + edge::half_with(p.left),
         y: 2 * p.y + edge::half_with(p.above),
         width: half,
@@ -414,7 +418,11 @@ fn descend(table: &mut [i64], e: Edge, start: Stage, depth: usize) -> Node
             return stage_node(p);
         }
         let w = edge::quarter_details(p.width as i64, p.left, p.above, across, down);
-        add_details(table, haar::first_detail(p.level, p.x, p.y), w);
+        add_details(
+            table,
+            haar::first_detail_across(p.level, p.across, p.x, p.y),
+            w,
+        );
         p = quarter_stage(p);
     }
     stage_node(p)

@@ -54,22 +54,23 @@ module _ (c : tie.After-tile-width) where
 
 before-middle-requires : tie.Need-before-middle-requires
 before-middle-requires c κs =
-    let t = c .before .before in
+    let t = c .before .before .before in
     let p = s t .pre in
     (stage-few (p .2) (omega (arith, p .0, p .1)), wide t, again t (p .4 .x0), again t (p .4 .x1))
 
 before-middle-requires-2 : tie.Need-before-middle-requires-2
 before-middle-requires-2 c κs =
-    let t = c .before .before .before .before .before in
+    let t = c .before .before .before .before .before .before in
     let p = s t .pre in
     (stage-few (p .3) (omega (arith, p .0, p .1)), wide t, again t (p .4 .y0), again t (p .4 .y1))
 
 returns : tie.Need-returns
 returns c =
     let a = c .before .before .before in
-    let t = a .before .before .before in
+    let n = a .before .before .before in
+    let t = n .before in
     let p = s t .pre in
-    stage-eq refl refl refl (width-is t) (answered t (s t .args .c .x) (p .4 .x0) (p .4 .x1) (a .before-middle .ok) (a .before-middle .ensures))
+    stage-eq refl (n .cells-across .ensures) refl refl (width-is t) (answered t (s t .args .c .x) (p .4 .x0) (p .4 .x1) (a .before-middle .ok) (a .before-middle .ensures))
     (answered t (s t .args .c .y) (p .4 .y0) (p .4 .y1) (c .before-middle2 .ok) (c .before-middle2 .ensures))
 
 pub cell-stage-spec : {M : Type 1} → statement M
@@ -79,6 +80,7 @@ cell-stage-spec =
     (λ c. c .before .pre .1)
     (λ c κs. let p = c .before .pre .0 in omega (arith, p))
     (λ c. record { sfits = omega (arith, narrow c) })
+    (λ c κs. let p = s c .pre in omega (arith, p .0, p .1))
     before-middle-requires
     before-middle-requires-2
     returns)

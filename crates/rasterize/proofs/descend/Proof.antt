@@ -137,13 +137,13 @@ quarter-details-requires c κs =
 abbrev going-on : tie.After-quarter-details Inv-loop μ-loop → tie.Else2 Inv-loop μ-loop
 going-on c = c .before .before .before .before
 
-abbrev found : tie.After-first-detail Inv-loop μ-loop → tie.After-quarter-details Inv-loop μ-loop
+abbrev found : tie.After-first-detail-across Inv-loop μ-loop → tie.After-quarter-details Inv-loop μ-loop
 found c = c .before .before
 
-first-detail-requires : tie.Need-first-detail-requires Inv-loop μ-loop
-first-detail-requires c κs =
+first-detail-across-requires : tie.Need-first-detail-across-requires Inv-loop μ-loop
+first-detail-across-requires c κs =
     let k = going-on (c .before) in
-    (omega (arith, above k, bottom (s k), s k .pre .0, s k .pre .1 .shallow), room k .x-below, room k .y-below)
+    (omega (arith, above k, bottom (s k), s k .pre .0, s k .pre .1 .shallow), room k .across, room k .x-below, room k .y-below)
 
 details-same : {w w′ u u′ v v′ x x′ y y′ : ℤ} → w ≡ w′ → u ≡ u′ → v ≡ v′ → x ≡ x′ → y ≡ y′ → quarterDetails w u v x y ≡ quarterDetails w′ u′ v′ x′ y′
 details-same {w} {w′} {u} {u′} {v} {v′} {x} {x′} {y} {y′} i j k l m =
@@ -173,13 +173,13 @@ module _ (c : tie.After-quarter-details Inv-loop μ-loop) where
 add-details-requires : tie.Need-add-details-requires Inv-loop μ-loop
 add-details-requires c κs =
     let f = found c in (
-      ready-first (ready f) (way-first (way (here (k f))) (above (k f)) (lies (k f)) (c .first-detail .ensures)),
+      ready-first (ready f) (way-first (way (here (k f))) (above (k f)) (lies (k f)) (c .first-detail-across .ensures)),
       ready-own (ready f),
       small f,
     )
 
 -- from the addition back
-abbrev done : tie.After-table Inv-loop μ-loop → tie.After-first-detail Inv-loop μ-loop
+abbrev done : tie.After-table Inv-loop μ-loop → tie.After-first-detail-across Inv-loop μ-loop
 done c = c .before .before
 
 quarter-stage-requires : tie.Need-quarter-stage-requires Inv-loop μ-loop
@@ -196,7 +196,7 @@ loop-again c =
     let f = done (c .before) in
     let k = going-on (found f) in
     let o = way (here k) in
-    way-step o (above k) (lies k) (details-are (found f)) (way-first o (above k) (lies k) (f .first-detail .ensures))
+    way-step o (above k) (lies k) (details-are (found f)) (way-first o (above k) (lies k) (f .first-detail-across .ensures))
     (c .before .before .add-details .ensures) (c .quarter-stage .ensures)
 
 -- ---- no quarters
@@ -224,7 +224,7 @@ descend-spec =
     returns
     cast-quarter-details
     quarter-details-requires
-    first-detail-requires
+    first-detail-across-requires
     add-details-requires
     quarter-stage-requires
     loop-less

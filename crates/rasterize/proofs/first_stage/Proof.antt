@@ -72,7 +72,7 @@ returns : tie.Need-returns
 returns c =
     let t = given2 c in
     let m = s t .pre .1 in
-    stage-eq refl refl refl (t .tile-width .ensures) (short-is t (m .x0) (m .x1)) (short-is t (m .y0) (m .y1))
+    stage-eq refl refl refl refl (t .tile-width .ensures) (short-is t (m .x0) (m .x1)) (short-is t (m .y0) (m .y1))
     ∙ ap (λ (q : Square). stageAt (s t .args .e) (record { level = 0; x = 0; y = 0; square = q })) (sym (square-tile (s t .args .depth)))
 
 pub first-stage-spec : {M : Type 1} → statement M

@@ -15,7 +15,7 @@ use Rattle.edge.specs.Room.{extentLimit}
 use Rattle.edge.specs.Code.{halfWith, beforeHalf}
 use Rattle.edge.specs.Laws.Cells.{half-below}
 use Rattle.rasterize.specs.declared.Stage.{Stage}
-use Rattle.rasterize.specs.Laws.Stages.{stage-eq, stage-few}
+use Rattle.rasterize.specs.Laws.Stages.{stage-eq, stage-few, stage-across}
 use Rattle.rasterize.proofs.quarter_stage.Statement.{statement}
 use Rattle.rasterize.proofs.quarter_stage.Tie as tie
 
@@ -40,7 +40,7 @@ module _ (s : tie.Start) where
 
 -- from each call back
 abbrev first : tie.After-half-with → tie.Start
-first c = c .before .before .before .before .before
+first c = c .before .before .before .before .before .before
 
 abbrev second : tie.After-half-with2 → tie.After-half-with
 second c = c .before .before .before
@@ -55,18 +55,21 @@ add-t4 : tie.Need-add-t4
 add-t4 c = record { fits = omega (arith, c .before .before .pre .shallow) }
 
 mul-t5 : tie.Need-mul-t5
-mul-t5 c = let k = c .before .before .before .pre in record { fits = omega (arith, stage-few (k .x-below) (k .shallow)) }
+mul-t5 c = record { fits = omega (arith, stage-across (c .before .before .before .pre)) }
 
-add-t7 : tie.Need-add-t7
-add-t7 c =
+mul-t6 : tie.Need-mul-t6
+mul-t6 c = let k = c .before .before .before .before .pre in record { fits = omega (arith, stage-few (k .x-below) (k .shallow)) }
+
+add-t8 : tie.Need-add-t8
+add-t8 c =
     let k = first c .pre in
     record { fits = omega (arith, stage-few (k .x-below) (k .shallow), subst⁻¹ (λ n. n < 2) (c .half-with .ensures) (half-below _)) }
 
-mul-t8 : tie.Need-mul-t8
-mul-t8 c = let k = first (c .before) .pre in record { fits = omega (arith, stage-few (k .y-below) (k .shallow)) }
+mul-t9 : tie.Need-mul-t9
+mul-t9 c = let k = first (c .before) .pre in record { fits = omega (arith, stage-few (k .y-below) (k .shallow)) }
 
-add-t10 : tie.Need-add-t10
-add-t10 c =
+add-t11 : tie.Need-add-t11
+add-t11 c =
     let k = first (second c) .pre in
     record { fits = omega (arith, stage-few (k .y-below) (k .shallow), subst⁻¹ (λ n. n < 2) (c .half-with2 .ensures) (half-below _)) }
 
@@ -85,7 +88,7 @@ returns c =
     let deeper : p s .level + 1 ≡ suc (p s .level) = omega arith in
     let column = told (s .pre .left) (g .half-with .ensures) in
     let row = told (s .pre .above) (h .half-with2 .ensures) in
-    stage-eq deeper (omega (arith, column)) (omega (arith, row)) refl
+    stage-eq deeper (omega arith) (omega (arith, column)) (omega (arith, row)) refl
     (answered s (s .pre .left) (b .before-half .ok) (b .before-half .ensures)) (answered s (s .pre .above) (c .before-half2 .ok) (c .before-half2 .ensures))
 
 pub quarter-stage-spec : {M : Type 1} → statement M
@@ -95,11 +98,12 @@ quarter-stage-spec =
     cast-right
     add-t4
     mul-t5
+    mul-t6
     (λ c κs. search needs)
-    add-t7
-    mul-t8
+    add-t8
+    mul-t9
     (λ c κs. search needs)
-    add-t10
+    add-t11
     before-half-requires
     before-half-requires-2
     returns)

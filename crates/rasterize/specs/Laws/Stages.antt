@@ -6,10 +6,12 @@
 --   stage-node                   a cell of the tile is worked out again from its stage
 --   stage-room                   the numbers are small
 --   stage-few                    a cell's numbers are below the deepest level's
+--   stage-across                 and its level has at most as many cells across as that one
 use mathlib.Core.Path.{_≡_, refl, sym, _∙_, ap, ap₂, subst⁻¹}
 use mathlib.Core.List.{List, [], _∷_}
 use Prim.Native.Nat.{ℕ, suc, _+_, _*_, _/_, _%_, _^_, _<_, _≤_}
 use native.Mathlib.Omega.{arith}
+use native.Mathlib.Nat.{pow-succ'}
 use lib.Pow.{pow-mono}
 use lib.IntN.{ℤ, pos, _+ℤ_, _*ℤ_}
 use lib.Signed.{_≤ℤ_}
@@ -29,12 +31,14 @@ use Rattle.rasterize.specs.Stages.{stageAt, quarterStage, stageNode, Sta
 use Rattle.rasterize.specs.Ready.{OnSheet, Ready}
 use Rattle.rasterize.specs.Laws.OnSheet.{twice}
 
-pub stage-eq : {l l′ x x′ y y′ w w′ : ℕ} {u u′ v v′ : ℤ} → l ≡ l′ → x ≡ x′ → y ≡ y′ → w ≡ w′ → u ≡ u′ → v ≡ v′
-    → _≡_ {A = Stage} (record { level = l; x = x; y = y; width = w; left = u; above = v }) (record { level = l′; x = x′; y = y′; width = w′; left = u′; above = v′ })
-stage-eq {l} {l′} {x} {x′} {y} {y′} {w} {w′} {u} {u′} {v} {v′} a b c d e f =
-    ap₂ (λ l x. record { level = l; x = x; y = y; width = w; left = u; above = v }) a b
-    ∙ ap₂ (λ y w. record { level = l′; x = x′; y = y; width = w; left = u; above = v }) c d
-    ∙ ap₂ (λ u v. record { level = l′; x = x′; y = y′; width = w′; left = u; above = v }) e f
+pub stage-eq : {l l′ n n′ x x′ y y′ w w′ : ℕ} {u u′ v v′ : ℤ} → l ≡ l′ → n ≡ n′ → x ≡ x′ → y ≡ y′ → w ≡ w′ → u ≡ u′ → v ≡ v′
+    → _≡_ {A = Stage} (record { level = l; across = n; x = x; y = y; width = w; left = u; above = v })
+    (record { level = l′; across = n′; x = x′; y = y′; width = w′; left = u′; above = v′ })
+stage-eq {l} {l′} {n} {n′} {x} {x′} {y} {y′} {w} {w′} {u} {u′} {v} {v′} a b c d e f g =
+    ap₂ (λ l n. record { level = l; across = n; x = x; y = y; width = w; left = u; above = v }) a b
+    ∙ ap₂ (λ x y. record { level = l′; across = n′; x = x; y = y; width = w; left = u; above = v }) c d
+    ∙ ap₂ (λ w u. record { level = l′; across = n′; x = x′; y = y′; width = w; left = u; above = v }) e f
+    ∙ ap (λ v. record { level = l′; across = n′; x = x′; y = y′; width = w′; left = u′; above = v }) g
 
 -- quarter i + 2 j is the one in half i from the left and in half j from the top
 column : (i j : ℕ) → i < 2 → i ≡ (i + 2 * j) % 2
@@ -56,7 +60,7 @@ stage-quarter {e} c p =
     let v = beforeMiddle (s .top) (s .width) (e .y0) (e .y1) in
     let i = column (halfWith u) (halfWith v) (half-below u) in
     let j = row (halfWith u) (halfWith v) (half-below u) in
-    stage-eq refl (ap (λ n. 2 * c .x + n) i) (ap (λ n. 2 * c .y + n) j) refl
+    stage-eq refl (sym (pow-succ' 2 (c .level))) (ap (λ n. 2 * c .x + n) i) (ap (λ n. 2 * c .y + n) j) refl
     (sym (before-half (s .left) (s .width) half (e .x0) (e .x1) (twice p)) ∙ ap (λ n. beforeMiddle (s .left +ℤ pos n *ℤ half) half (e .x0) (e .x1)) i)
     (sym (before-half (s .top) (s .width) half (e .y0) (e .y1) (twice p)) ∙ ap (λ n. beforeMiddle (s .top +ℤ pos n *ℤ half) half (e .y0) (e .y1)) j)
 
@@ -73,6 +77,7 @@ before-within {side} {w} {p} {q} {b} i j k = record {
 pub stage-room : {t : List ℤ} {e : Edge} {left : ℕ} {c : Node} → Ready t e left c → OnCell (c .square) e → StageRoom (stageAt e c)
 stage-room {c = c} r o = record {
   shallow = omega (arith, r .shallow);
+  across = refl;
   x-below = r .x-below;
   y-below = r .y-below;
   wide = natAbs-of-within (within-le wide (within-self width≥0));
@@ -94,3 +99,6 @@ stage-room {c = c} r o = record {
 
 pub stage-few : {n level : ℕ} → n < 2 ^ level → level ≤ greatestDepth → n < greatestSide
 stage-few {n} {level} h k = omega (arith, pow-mono {i = level} {j = greatestDepth} k)
+
+pub stage-across : {p : Stage} → StageRoom p → p .across ≤ greatestSide
+stage-across {p} r = omega (arith, r .across, pow-mono {i = p .level} {j = greatestDepth} (r .shallow))
