@@ -9,6 +9,7 @@
 --   levelPart e a depth K x y j i        the same in the cell of level j above cell (x, y) of level K, in which e and a lie
 --   above e a depth K x y i              and in all the cells above it
 --   runLevels, widestRun, longestRun     how many levels a run's cell is above a pixel, how wide it is, in steps; how many edges a run may have
+--   triangleLimit                        what one more edge adds to a run's area at most
 --   runSquare c, runNode depth c         the cell of a run: its square, and with its level
 --   squareAt c w, parentSpot c           a cell's square by its width, and the cell above it
 --   triangle s m t                       the area between the edges from s to m and from m to t and the edge from s to t
@@ -17,7 +18,7 @@
 --   AboveReady t e a depth c             what adding a chord and an area in the cells above a run's cell asks for
 --   RunReady t points depth k c          what a run from edge k on asks for
 --   NextReady view t points depth k      what adding edge k, and edges after it, asks for
---   HasRuns b view sign depth            if b says so, edges are added in runs
+--   HasRuns b view sign depth            b is yes only where edges may be added in runs
 --   Along depth points k c before t r    a run has come so far: once its chord and its area are added above its cell, its edges are added
 use mathlib.Core.Path.{_≡_}
 use mathlib.Core.Bool.{Bool, true, cond}
@@ -79,18 +80,18 @@ levelPart e a depth K x y j i = partIn e a (ancestor depth K x y j) (halfAt K x 
 abbrev pub above : Edge → ℤ → (depth K x y i : ℕ) → ℤ
 above e a depth K x y i = Σ< K (λ j. levelPart e a depth K x y j i)
 
--- four pixels: in so narrow a cell a run's area and its chord's details are small
+-- four pixels: in a wider cell runs would be longer, but each of their edges would add on more levels
 abbrev pub runLevels : ℕ
 runLevels = 2
 
 abbrev pub widestRun : ℕ
 widestRun = 4 * stepsPerPixel
 
--- so that its area is small
+-- 64 times `triangleLimit`, 2^27, and with a chord's detail that is within `detailLimit`, 2^28
 abbrev pub longestRun : ℕ
 longestRun = 64
 
--- what one more edge adds to a run's area at most, in units: twice the area of so wide a square
+-- in units, the area of the whole cell: more than any triangle in it
 abbrev pub triangleLimit : ℕ
 triangleLimit = 2 * (widestRun * widestRun)
 

@@ -1,4 +1,4 @@
-// A contour, an outline into a table of Haar coefficients.
+// Adds contours and outlines to a table of Haar coefficients.
 //
 // A contour is the slice of its own points, and its last point joins its first. An outline is one contour after the other. A placement moves points:
 // each is fetched, placed, when an edge that begins or ends there is made, so that no list of placed points is kept.
@@ -52,16 +52,16 @@ pub fn edge_from(points: &[i64], placement: Placement, n: usize, k: usize) -> Ed
 // the two:
 //
 //          .--.            Each edge of a run adds in the cell and below; all of them together add once in each cell above: the chord's details, and the area,
-//       .-'    `.          which h has with the sign of the half that it lies in, left or right, v with that of above or below, and d with both. The sum of
-//      o--------->o        the edges' root terms less the chord's is twice that area.
+//       .-'    `.          which h gets with the sign of its left or right half, v with that of its upper or lower half, d with the product. The sum of the
+//      o--------->o        edges' root terms less the chord's is that area, in units.
 
 // How many levels a run's cell is above a pixel: it is four pixels wide. In a wider one runs would be longer, but each edge would add on more levels.
 const RUN_LEVELS: usize = 2;
 
-// How wide that is, in steps.
+// How wide that is, in steps: 4 pixels of 256.
 const RUN_WIDTH: i64 = 1024;
 
-// The most edges of a run, so that its area is small.
+// The most edges of a run. Each adds less than 2^21 to the area, so that it is at most 2^27, and with a chord's detail within what a detail may be, 2^28.
 const LONGEST_RUN: usize = 64;
 
 // How far a run has come: the edges before `next` have been added in the run's cell and below, and end at (x, y). `sum` has their root terms.
@@ -90,7 +90,8 @@ fn lies_on_cell(e: Edge, c: Spot) -> bool
     lie_in(e.x0, e.x1, c.x) && lie_in(e.y0, e.y1, c.y)
 }
 
-// The cell in which a run from the edge's first point on would lie. It may be no cell of the tile.
+// The cell in which a run from the edge's first point on would lie. It may be no cell of the tile, on whose right and lower border points lie too. The contract
+// gives its level alone: any cell would do, since the caller tests it, and this one lets runs begin.
 fn cell_from(e: Edge, depth: usize) -> Spot
     requires { ⌜ runLevels ≤ depth ⌝ }
     ensures { λ c. ⌜ c .level + runLevels ≡ depth ⌝ }
@@ -113,7 +114,7 @@ fn is_cell(c: Spot) -> bool
     c.x < across && c.y < across
 }
 
-// z, and in the second half -z.
+// z, and in the second half -z. Any limit that keeps -z a number would do.
 fn signed_in(z: i64, half: usize) -> i64
     requires { ⌜ Within (pos (2 ^ 40)) z × (half < 2) ⌝ }
     ensures { λ r. ⌜ r ≡ halfSign half *ℤ z ⌝ }
@@ -133,7 +134,7 @@ fn from_side(p: i64, q: i64, n: usize, w: i64, half: usize) -> i64
     }
 }
 
-// The cell of the level above that has a cell in it.
+// The cell one level up in which a cell lies.
 fn parent_of(c: Spot) -> Spot
     requires { ⌜ 0 < c .level ⌝ }
     ensures { λ r. ⌜ r ≡ parentSpot c ⌝ }
@@ -218,7 +219,7 @@ fn add_along(
     r
 }
 
-// Adds a run from edge k on. Answers the edge after it.
+// Adds a run from edge k on. Answers the number of the next edge to add, n if there is none.
 fn add_run(
     table: &mut [i64],
     points: &[i64],
@@ -244,7 +245,7 @@ fn add_run(
     r.next
 }
 
-// Adds a run from edge k on, and if that edge lies on no one cell of a run, the edge. Answers the edge after them.
+// Adds a run from edge k on, or edge k alone where none begins. Answers the number of the next edge to add.
 fn add_some(
     table: &mut [i64],
     points: &[i64],
@@ -267,7 +268,7 @@ fn add_some(
     k + 1
 }
 
-// Are a contour's edges added in runs? Those of a tile alone are, where there are levels above the runs' cells; a contour is taken out edge by edge.
+// Are a contour's edges added in runs? Those that are added to a tile alone are, where there are levels above the runs' cells.
 fn has_runs(view: View, sign: i64, depth: usize) -> bool
     ensures { λ b. ⌜ HasRuns b view sign depth ⌝ }
 {
@@ -277,7 +278,7 @@ fn has_runs(view: View, sign: i64, depth: usize) -> bool
     }
 }
 
-// Adds edge k, and the edges after it if they are added in runs. Answers the edge after them.
+// Adds edge k, and the edges after it if they are added in runs. Answers the number of the next edge to add.
 fn add_next(
     table: &mut [i64],
     points: &[i64],
@@ -317,7 +318,7 @@ pub fn add_contour(
     }
 }
 
-// Adds the contours of an outline, as placed: each is the run of points that begins where the one before ended.
+// Adds the contours of an outline, as placed: each begins at the point after the last one of the contour before.
 pub fn add_outline(
     table: &mut [i64],
     points: &[i64],

@@ -44,6 +44,7 @@ const MOST_PARENTS: usize = 1024;
 // Down to this level a shorter list has room for the figures of the level above, and takes less time to make.
 const SHALLOW: usize = 4;
 
+// 4^3: the cells of the level above that.
 const FEW_PARENTS: usize = 64;
 
 // Two children of a cell that lie side by side, in its upper or in its lower half.

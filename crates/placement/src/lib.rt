@@ -220,7 +220,7 @@ fn moved(p: Placement, x: i64, y: i64) -> Point
     }
 }
 
-// Point k of an outline, as placed. Where nothing is moved, that is the point itself, and no call is made: so small, the function is put into its callers.
+// Point k of an outline, as placed. Where nothing is moved, that is the point itself, and no call is made: the function is small enough to be inlined.
 pub fn point_at(p: Placement, points: &[i64], k: usize) -> Point
     requires { ⌜ (2 * k + 1 < length (now points)) × (placeable p (now points) ≡ true) ⌝ }
     ensures { λ q. ⌜ (q .x ≡ getD (placed p (now (points .entry))) (2 * k) (pos 0)) × (q .y ≡ getD (placed p (now (points .entry))) (2 * k + 1) (pos 0)) ⌝ }
@@ -258,7 +258,7 @@ fn all_moved_within(p: Placement, points: &[i64], low: i64, high: i64) -> bool
     true
 }
 
-// The same. Without a placement the coordinates are the points themselves, and none needs to be fetched through it.
+// Do all coordinates, as placed, lie from low to high? Without a placement these are the points themselves, and none needs to be fetched through it.
 pub fn all_placed_within(p: Placement, points: &[i64], low: i64, high: i64) -> bool
     requires { ⌜ (length (now points) % 2 ≡ 0) × (placeable p (now points) ≡ true) ⌝ }
     ensures { λ b. ⌜ b ≡ every (between low high) (placed p (now (points .entry))) ⌝ }

@@ -11,8 +11,8 @@
 --   Splits c                     a cell that has quarters
 --   Fits t depth n               a table of a tile of side 2^depth, with room for n more edges
 --   squareOf w                   a square at the origin
---   Descent e s all t c u        table t has become u: adding to u what the edge adds in cell c and below it gives what adding to t what it adds in cell s
---                                and below it, `all` levels, would
+--   Descent e s all t c u        table t has become u: of what the edge adds in cell s and below it, `all` levels, what it adds in cell c and below it is
+--                                still missing
 use mathlib.Core.Path.{_≡_}
 use mathlib.Core.List.{List}
 use Prim.Native.Nat.{ℕ, zero, suc, _+_, _*_, _-_, _^_, _<_, _≤_}

@@ -3,7 +3,7 @@
 // The tile is cut into quarters, each quarter into quarters, and so on: a quadtree. An edge adds its term of the signed area to the root, and its
 // three details, h, v and d, which `edge` works out, and of a slanted edge `slanted`, to each cell inside which some part of it lies.
 //
-//       +-------+-------+        From the whole tile a loop goes down as long as the edge lies in one quarter. There the recursion begins: a cell
+//       +-------+-------+        From the tile, or a cell that it lies on, a loop goes down while it lies in one quarter. There the recursion begins: a cell
 //       |       |  /    |        adds its own three details, and hands the edge on to those of its quarters inside which some part of it lies, here
 //       |       | /     |        all but the upper left one, until the last level. In a cell that the edge misses its details are 0, and so they are
 //       +-------+/------+        in every cell inside that one: none of them is visited.
@@ -213,7 +213,7 @@ fn add_node(table: &mut [i64], walk: Walk, c: Node, span: Span, left: usize)
     }
 }
 
-// Which half of a cell a walk is in, 0 for the left or upper and 1 for the right or lower, where its sign is this: k is 0 before the middle is crossed and 1 after.
+// The half that a walk with this sign is in: the left or upper one is 0, the right or lower one 1. k is 0 before it crosses the middle and 1 after.
 fn half_on(sign: i64, k: usize) -> usize
     requires { ⌜ k < 2 ⌝ }
     ensures { λ r. ⌜ r ≡ halfOn sign k ⌝ }

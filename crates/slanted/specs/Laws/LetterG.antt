@@ -2,6 +2,7 @@
 -- holds of it, and what they say is what is known of it.
 --
 -- Main results
+--   g-span            it lies on the tile, and so all its steps do
 --   g-piece           its six numbers in the tile, by computing
 --   g-sound           they are sound
 --   g-details         and give its details, "rounded to 510"
@@ -21,17 +22,18 @@ use Rattle.integers.specs.Rounding.{roundHalfAway, nearestℕ}
 use Rattle.edge.specs.declared.Cell.{Cell}
 use Rattle.edge.specs.declared.Walk.{Walk}
 use Rattle.edge.specs.Walk.{extent, sign}
-use Rattle.edge.specs.Cuts.{strip}
+use Rattle.edge.specs.Cuts.{allSteps, strip, span}
 use Rattle.edge.specs.Room.{Room}
 use Rattle.edge.specs.Rounded.{details}
 use Rattle.edge.specs.Octilinear.{Octilinear, level, upright, diagonal}
 use Rattle.edge.specs.WalkOf.{IsWalk, fine, fineWalk}
-use Rattle.edge.specs.Nested.{quarter}
+use Rattle.edge.specs.Nested.{quarter, OnCell}
 use Rattle.edge.specs.Laws.Letters.{g}
 use Rattle.slanted.specs.declared.Piece.{Piece}
 use Rattle.slanted.specs.Under.{under, turned}
 use Rattle.slanted.specs.Pieces.{Moving, onward, slopeOf, pieceOf, roundedDetails, Sound}
 use Rattle.slanted.specs.Parts.{halfOn, since, until, shifted, IsPart}
+use Rattle.slanted.specs.Laws.WholeSpan.{span-whole}
 use Rattle.slanted.specs.Laws.PieceDetails.{piece-details}
 use Rattle.slanted.specs.Laws.PieceSound.{piece-sound}
 use Rattle.slanted.specs.Laws.PieceParts.{piece-part}
@@ -74,6 +76,17 @@ room = record {
   wide = lin≤ [] none! (search linear depth 40) tt;
   tall = lin≤ [] none! (search linear depth 40) tt;
 }
+
+on-tile : OnCell tile g
+on-tile = record {
+  x0 = record { low = lin≤ [] none! (search linear depth 40) tt; high = lin≤ [] none! (search linear depth 40) tt };
+  y0 = record { low = lin≤ [] none! (search linear depth 40) tt; high = lin≤ [] none! (search linear depth 40) tt };
+  x1 = record { low = lin≤ [] none! (search linear depth 40) tt; high = lin≤ [] none! (search linear depth 40) tt };
+  y1 = record { low = lin≤ [] none! (search linear depth 40) tt; high = lin≤ [] none! (search linear depth 40) tt };
+}
+
+pub g-span : span (w .x) (w .y) tile (w .steps) ≡ allSteps (w .steps)
+g-span = span-whole walk moves-x moves-y tile on-tile
 
 -- four steps; x crosses its middle after one, and y would after 1,024
 pub g-piece : pieceOf w tile (pos 256) ≡ record { first = pos 0; last = pos 4; «middle_x» = pos 1; «middle_y» = pos 1024; «half_x» = pos 256; «half_y» = pos 1024 }
