@@ -1,8 +1,11 @@
 -- The cell of a run, by its numbers.
 --
+-- Definitions
+--   SmallEdge e                  an edge whose coordinates are within those of the greatest tile
+--
 -- Main results
 --   run-width, run-square        its width, and its square is that of the tile's cell
---   on-cell-small                an edge on it has small coordinates
+--   on-cell-small                an edge on it is small
 use mathlib.Core.Path.{_≡_, sym, _∙_, ap, subst}
 use mathlib.Core.List.{[], _∷_}
 use Prim.Native.Nat.{ℕ, _+_, _*_, _-_, _^_, _<_, _≤_}
