@@ -61,7 +61,7 @@ const RUN_LEVELS: usize = 2;
 // How wide that is, in steps: 4 pixels of 256.
 const RUN_WIDTH: i64 = 1024;
 
-// The most edges of a run. Each adds less than 2^21 to the area, so that it is at most 2^27, and with a chord's detail within what a detail may be, 2^28.
+// The most edges of a run. Each adds at most 2^21 to the area, so that it is at most 2^27, and with a chord's detail within what a detail may be, 2^28.
 const LONGEST_RUN: usize = 64;
 
 // How far a run has come: the edges before `next` have been added in the run's cell and below, and end at (x, y). `sum` has their root terms.
