@@ -1,1 +1,2 @@
 // How near the figures and greys of an outline's table are to its exact areas. Mathematics only, no code: `specs/` has it.
+#![tactic(auto)]

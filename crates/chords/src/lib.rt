@@ -9,6 +9,8 @@
 //    .  ___ .
 //   p--'   '--q                   Points are fetched, as placed, when a side is made; a control point is placed like the others.
 //
+#![tactic(auto)]
+
 ghost use Rattle.std.specs.Prelude.{◌≡◌, true, ◌+◌, ◌*◌, ◌^◌, ◌<◌, ◌≤◌, length, pos};
 ghost use Rattle.integers.specs.Units.{most_points};
 ghost use Rattle.integers.specs.Within.{Within};

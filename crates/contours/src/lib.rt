@@ -2,6 +2,8 @@
 //
 // A contour is the slice of its own points, and its last point joins its first. An outline is one contour after the other. A placement moves points:
 // each is fetched, placed, when an edge that begins or ends there is made, so that no list of placed points is kept.
+#![tactic(auto)]
+
 ghost use Rattle.std.specs.Prelude.{◌≡◌, true, ◌+◌, ◌*◌, ◌-◌, ◌/◌, ◌^◌, ◌<◌, ◌≤◌, length, pos, ◌*ℤ◌};
 ghost use Rattle.integers.specs.Within.{Within};
 ghost use Rattle.integers.specs.ListSum.{All};

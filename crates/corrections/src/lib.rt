@@ -5,6 +5,8 @@
 //
 // All questions but one are asked before anything is written. The last, whether the table that would be left is in range, is asked of the table once the
 // change is made; where it is not in range the change is undone, and every entry is what it was. So no copy of the table is kept.
+#![tactic(auto)]
+
 ghost use Rattle.std.specs.Prelude.{◌≡◌, ◌+◌, ◌≤◌};
 ghost use Rattle.integers.specs.Units.{most_edges};
 ghost use Rattle.placement.specs.Placed.{placed};

@@ -2,6 +2,8 @@
 //
 // A curve is split into 2^k pieces of equal parameter length, and each piece becomes a chord. A chord is farthest from its curve in the middle of the piece,
 // by a quarter of bend / 4^k, the bend being p − 2 q + r: so k is the least number that makes this one step or less, in x and in y.
+#![tactic(auto)]
+
 ghost use Rattle.std.specs.Prelude.{◌≡◌, ◌^◌, ◌≤◌, pos, nat_abs, neg_ℤ, ◌*ℤ◌, ◌&&◌, ◌≤ℤ◌, ◌<ℤ◌};
 ghost use Rattle.integers.specs.Tests.{between};
 ghost use Rattle.integers.specs.Rounding.{round_half_up};

@@ -4,6 +4,8 @@
 // the first "no" decides. Counts count edges as they are marked; where all is answered yes, curves are drawn as chords, and the edge count is the chords'.
 //
 // Sums that nothing bounds yet are counted down from the length that they are to be, and not up: there may be any number of counts and marks.
+#![tactic(auto)]
+
 ghost use Rattle.std.specs.Prelude.{◌≡◌, ◌≤◌, eqb, length};
 ghost use Rattle.integers.specs.Units.{greatest_sheet_side};
 ghost use Rattle.integers.specs.Tests.{every};

@@ -29,6 +29,7 @@
 // and a piece adds the same product.
 //
 // No step is visited, no number passes 64 bits (`specs/Room.antt`), and nothing is rounded but the three details and the area, each on its own.
+#![tactic(auto)]
 
 ghost use Rattle.std.specs.Prelude.{◌≡◌, ◌⊎◌, ◌<◌, pos, nat_abs, ◌+ℤ◌, ◌-ℤ◌, ◌*ℤ◌, ◌≤ℤ◌, ◌<ℤ◌};
 ghost use Rattle.integers.specs.Rounding.{round_half_away};

@@ -2,6 +2,8 @@
 // each it prints h, v and d and the area, each rounded, and `in` where some part of the edge lies strictly inside the cell, else `out`; or `out of range`.
 //
 // `stdin` has the cases, each kind under a comment, and `stdout` what must be printed, as `answers` of rust/ makes it.
+#![tactic(auto)]
+
 ghost use Rattle.std.specs.Prelude.{pos};
 ghost use Rattle.integers.specs.Within.{Within};
 ghost use Rattle.edge.specs.Room.{coordinate_limit, Room};

@@ -3,6 +3,8 @@
 // A text goes through three steps. `reading` of `frame_text` asks question 11, and takes a text that passes it apart into a side, a level and an outline.
 // `tile` builds the outline's table and draws the greys of the level. `printing` of `frame_text` puts the edge count, the root and the greys, or a refusal,
 // into an answer.
+#![tactic(auto)]
+
 ghost use Rattle.std.specs.Prelude.{◌≡◌, ◌++◌, ◌*◌, ◌<◌, ◌≤◌, length, drop};
 ghost use Rattle.integers.specs.Units.{greatest_side};
 ghost use Rattle.accuracy.specs.Outline.{edge_count};

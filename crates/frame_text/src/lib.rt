@@ -2,6 +2,8 @@
 //
 // `reading` asks question 11, and takes a text that passes it apart into a side, a level and an outline. `printing` puts the line of the edge count and the
 // root, those of the greys, or that of a refusal, over the start of a slice. `hex` has the digits of both.
+#![tactic(auto)]
+
 mod hex;
 pub mod printing;
 pub mod reading;

@@ -17,6 +17,8 @@
 // The children of the last cell are put in first, so that no figure is overwritten before it is used. A picture takes fewer than two such pairs for
 // three of its cells. Greys need the figures of the level above, at most 1,024, beside the picture; all levels of greys in one list need no more. One
 // cell alone takes a pair for each level. Figures of a table whose entries are within 2^40 are within 2^52, so no number passes 64 bits.
+#![tactic(auto)]
+
 ghost use Rattle.std.specs.Prelude.{◌≡◌, suc, ◌+◌, ◌*◌, ◌-◌, ◌/◌, ◌%◌, ◌^◌, ◌<◌, ◌≤◌, length, set, pos, ◌*ℤ◌};
 ghost use Rattle.integers.specs.Units.{greatest_depth, greatest_side};
 ghost use Rattle.integers.specs.Within.{Within};

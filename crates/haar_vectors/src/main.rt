@@ -4,6 +4,8 @@
 // formed, or has a number out of range, is refused.
 //
 // `stdout` has what must be printed, as `answers` of rust/ makes it.
+#![tactic(auto)]
+
 use libc::STDIN_FILENO;
 
 mod read;

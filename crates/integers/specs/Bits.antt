@@ -37,11 +37,11 @@ within_back {b} f w = subst⁻¹ (Within b) (to_z-of_z f) w
 
 -- what a call answers fits 64 bits
 pub result_is : {z v : ℤ} → mag z < 2 ^ 63 → z ≡ v → to_z w64 (of_z w64 z) ≡ v
-result_is k e = to_z-of_z (record { sfits = k }) ∙ e
+result_is k e = to_z-of_z {w = w64} (record { sfits = k }) ∙ e
 
 -- and so does what a field holds
 pub field_is : (z : ℤ) → mag z < 2 ^ 63 → to_z w64 (of_z w64 z) ≡ z
-field_is z k = to_z-of_z (record { sfits = k })
+field_is z k = to_z-of_z {w = w64} (record { sfits = k })
 
 pub same_bits : {y z : ℤ} → SFits w64 y → SFits w64 z → of_z w64 y ≡ of_z w64 z → y ≡ z
 same_bits f g e = sym (to_z-of_z f) ∙ ap (to_z w64) e ∙ to_z-of_z g

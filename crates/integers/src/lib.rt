@@ -1,4 +1,6 @@
 // Arithmetic on whole numbers that other crates call. What it means is in specs/, in the order of specs/Lib.antt.
+#![tactic(auto)]
+
 ghost use Rattle.std.specs.Prelude.{◌≡◌, pos, nat_abs, ◌<ℤ◌};
 ghost use Rattle.integers.specs.Rounding.{round_half_away};
 ghost use Rattle.integers.specs.Tests.{every, between};

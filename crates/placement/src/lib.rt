@@ -9,6 +9,8 @@
 //
 // A float is a multiple of 1/65,536 where it is, in parts, equal to its own integer part. Its range is tested before that, so that the integer part fits
 // 64 bits; that shuts out what is not finite too.
+#![tactic(auto)]
+
 ghost use Rattle.std.specs.Prelude.{◌≡◌, ◌+◌, ◌*◌, ◌%◌, ◌<◌, ◌≤◌, true, ◌&&◌, [], ◌∷◌, length, pos, slice_index_or};
 ghost use Rattle.integers.specs.Units.{parts_per_step, factor_limit, offset_limit, placed_limit};
 ghost use Rattle.integers.specs.Tests.{every, between};

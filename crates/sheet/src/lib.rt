@@ -10,6 +10,8 @@
 //       +-----+-----+-----+-----+
 //
 // A site is where a tile lies: alone, as 01 has it, or on a sheet. What the calls of `corrections` ask and do goes by the site.
+#![tactic(auto)]
+
 ghost use Rattle.std.specs.Prelude.{◌≡◌, ◌*◌, ◌<◌, ◌≤◌, pos};
 ghost use Rattle.integers.specs.Units.{steps_per_pixel, greatest_sheet_side};
 ghost use Rattle.integers.specs.Tests.{one_of};

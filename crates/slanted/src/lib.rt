@@ -13,6 +13,8 @@
 // crossing, and of the half after it that much after; and the steps inside are cut at the crossing. No product is formed, and no coordinate is read.
 //
 // Nothing is rounded but the three details, each on its own.
+#![tactic(auto)]
+
 ghost use Rattle.std.specs.Prelude.{◌≡◌, ◌<◌, pos, nat_abs, ◌+ℤ◌, ◌-ℤ◌, ◌*ℤ◌, ◌≤ℤ◌, ◌<ℤ◌};
 ghost use Rattle.integers.specs.Rounding.{round_half_away};
 ghost use Rattle.integers.specs.Units.{width_times_extent_limit};

@@ -3,6 +3,8 @@
 //
 // None asks anything of its caller. Each asks its questions of what it is given, in the papers' order; the first "no" decides, and its number is the
 // answer. Where all are answered yes the answer is 0 and the work is done. A refused call changes nothing.
+#![tactic(auto)]
+
 ghost use Rattle.std.specs.Prelude.{◌≡◌, ◌+◌, ◌*◌, ◌<◌, ◌≤◌, length, replicate, pos, leb, ◌&&◌};
 ghost use Rattle.integers.specs.Units.{greatest_side, greatest_depth, fewest_points, most_points};
 ghost use Rattle.tile.specs.Questions.{depth_of, first_no, question1, question2, question4, question7, question8, question8_all, question9, question10};

@@ -2,6 +2,8 @@
 //
 // A slice is passed as a pointer and a length, a place on a sheet as its four numbers. A call that answers two numbers answers the first, that of the refusal or
 // 0, and writes the second through a pointer.
+#![tactic(auto)]
+
 ghost use Rattle.std.specs.Prelude.{◌≡◌, length};
 ghost use Rattle.tile.specs.Outcomes.{build_result, build_table, placed_result, placed_table, draw_refusal, figures_picture, greys_picture, cell_result};
 ghost use Rattle.tile.specs.Outcomes.{pyramid_refusal, pyramid_pictures};

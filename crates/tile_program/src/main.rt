@@ -1,4 +1,6 @@
 // The tile program: standard input is a frame, standard output the answer. What it does with the bytes is `frame::draw`.
+#![tactic(auto)]
+
 use libc::{STDIN_FILENO, STDOUT_FILENO};
 
 fn main() {

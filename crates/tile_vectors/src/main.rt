@@ -12,6 +12,8 @@
 // greatest or the least one, and any other letter is refused.
 //
 // `stdout` has what must be printed, as `answers` of rust/ makes it.
+#![tactic(auto)]
+
 use libc::STDIN_FILENO;
 
 mod calls;

@@ -1,5 +1,7 @@
 // What the test programs print: words, numbers, and in place of a long line of numbers its checksum. No function here has a contract: what a program
 // prints is compared with its `stdout`.
+#![tactic(auto)]
+
 use integers::magnitude;
 use libc::STDOUT_FILENO;
 
