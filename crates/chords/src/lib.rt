@@ -33,7 +33,7 @@ use placement::{Placement, Point};
 use rasterize::View;
 
 // A quadratic Bézier curve: from (x0, y0) to (x1, y1), with the control point (cx, cy).
-#[derive(Drop)]
+#[derive(Clone, Copy)]
 pub struct Curve {
     pub x0: i64,
     pub y0: i64,
@@ -44,7 +44,7 @@ pub struct Curve {
 }
 
 // An edge as it is marked.
-#[derive(Drop)]
+#[derive(Clone, Copy)]
 pub enum Side {
     Straight(Edge),
     Curved(Curve),

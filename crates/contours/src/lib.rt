@@ -70,7 +70,7 @@ const RUN_WIDTH: i64 = 1024;
 const LONGEST_RUN: usize = 64;
 
 // How far a run has come: the edges before `next` have been added in the run's cell and below, and end at (x, y). `sum` has their root terms.
-#[derive(Drop)]
+#[derive(Clone, Copy)]
 struct Run {
     next: usize,
     x: i64,

@@ -27,7 +27,7 @@ const NO_RECORD: u32 = 13;
 const MOST_POINTS: usize = 1024;
 
 // What is done with a contour.
-#[derive(Drop)]
+#[derive(Clone, Copy)]
 pub enum Change {
     Put,
     Take,

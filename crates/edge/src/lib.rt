@@ -49,7 +49,7 @@ ghost use Rattle.edge.specs.WalkOf.{IsWalk, Decides};
 use integers::div_round_half_away;
 
 // From (x0, y0) to (x1, y1).
-#[derive(Drop)]
+#[derive(Clone, Copy)]
 pub struct Edge {
     pub x0: i64,
     pub y0: i64,
@@ -58,7 +58,7 @@ pub struct Edge {
 }
 
 // A square: its left and its top side, and its width.
-#[derive(Drop)]
+#[derive(Clone, Copy)]
 pub struct Cell {
     pub left: i64,
     pub top: i64,
@@ -67,7 +67,7 @@ pub struct Cell {
 
 // h, v and d of an edge in a cell, in 01's units of half a square step, or their numerators. Before they are rounded, the parts of a closed contour's edges
 // add up to the area in the left half less that in the right, upper less lower, and upper left and lower right less the other two quarters.
-#[derive(Drop)]
+#[derive(Clone, Copy)]
 pub struct Details {
     pub h: i64,
     pub v: i64,
@@ -75,7 +75,7 @@ pub struct Details {
 }
 
 // One direction of a walk: the coordinate, `scale` times over, starts from `scale × start` and moves by `sign` at each step.
-#[derive(Drop)]
+#[derive(Clone, Copy)]
 pub struct Axis {
     pub scale: i64,
     pub start: i64,
@@ -83,7 +83,7 @@ pub struct Axis {
 }
 
 // An edge and its walk in `steps` steps. The sums along it are `divisor` times the values.
-#[derive(Drop)]
+#[derive(Clone, Copy)]
 pub struct Walk {
     pub edge: Edge,
     pub x: Axis,
@@ -93,14 +93,14 @@ pub struct Walk {
 }
 
 // The steps t with first <= t < last: none, where first is not below last.
-#[derive(Drop)]
+#[derive(Clone, Copy)]
 pub struct Span {
     pub first: i64,
     pub last: i64,
 }
 
 // A number at each of the four cuts: the first step, two middles in their order, the last step; or those steps.
-#[derive(Drop)]
+#[derive(Clone, Copy)]
 pub struct Samples {
     pub first: i64,
     pub second: i64,

@@ -27,7 +27,7 @@ pub const MOST_COORDINATES: usize = TEXT_LIMIT / COORDINATE_WIDTH;
 pub const MOST_CONTOURS: usize = TEXT_LIMIT / (POINT_WIDTH + 1);
 
 // How many coordinates and how many contours there are.
-#[derive(Drop)]
+#[derive(Clone, Copy)]
 pub struct Size {
     pub coordinates: usize,
     pub contours: usize,

@@ -47,7 +47,7 @@ const SHALLOW: usize = 4;
 const FEW_PARENTS: usize = 64;
 
 // Two children of a cell that lie side by side, in its upper or in its lower half.
-#[derive(Drop)]
+#[derive(Clone, Copy)]
 struct Pair {
     left: i64,
     right: i64,

@@ -46,7 +46,7 @@ pub fn is_within(z: i64, low: i64, high: i64) -> bool
 
 // What a search answers: how many numbers it looked at, and whether all that there are lie within its bounds. The count alone does not tell: it is
 // that of all numbers where all are within, and where only the last is not.
-#[derive(Drop)]
+#[derive(Clone, Copy)]
 pub struct Searched {
     pub looked: usize,
     pub within: bool,

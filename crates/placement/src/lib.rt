@@ -40,7 +40,7 @@ const OFFSET_LIMIT: u64 = 16384;
 const MOVABLE_LIMIT: i64 = 32768;
 
 // The six numbers of a turn, which takes (x, y) to a × x + b × y + c and d × x + e × y + f: a, b and c are one row, and d, e and f the other.
-#[derive(Drop)]
+#[derive(Clone, Copy)]
 pub struct Matrix {
     pub a: f64,
     pub b: f64,
@@ -51,7 +51,7 @@ pub struct Matrix {
 }
 
 // What is done to an outline before it is drawn.
-#[derive(Drop)]
+#[derive(Clone, Copy)]
 pub enum Placement {
     None,
     Shift(f64, f64),
@@ -59,7 +59,7 @@ pub enum Placement {
     Turn(Matrix),
 }
 
-#[derive(Drop)]
+#[derive(Clone, Copy)]
 pub struct Point {
     pub x: i64,
     pub y: i64,

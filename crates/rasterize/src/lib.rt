@@ -47,7 +47,7 @@ const QUARTERS: usize = 4;
 const STEPS_PER_PIXEL: usize = 256;
 
 // A cell of the quadtree: by its level and numbers, which say where its details stand in the table, and its square, which says where it lies.
-#[derive(Drop)]
+#[derive(Clone, Copy)]
 pub struct Node {
     pub level: usize,
     pub x: usize,
@@ -56,7 +56,7 @@ pub struct Node {
 }
 
 // A cell of the quadtree by its level and numbers alone.
-#[derive(Drop)]
+#[derive(Clone, Copy)]
 pub struct Spot {
     pub level: usize,
     pub x: usize,
@@ -65,7 +65,7 @@ pub struct Spot {
 
 // A cell on the way down to the smallest one that an edge lies in: its level, how many cells the level has across, its numbers and width, and how far both
 // ends of the edge lie to the left of its middle and above it, added up. Where the cell lies is not needed on the way.
-#[derive(Drop)]
+#[derive(Clone, Copy)]
 struct Stage {
     level: usize,
     across: usize,
@@ -77,14 +77,14 @@ struct Stage {
 }
 
 // A tile's upper left corner on its sheet, in steps.
-#[derive(Drop)]
+#[derive(Clone, Copy)]
 pub struct Corner {
     pub x: i64,
     pub y: i64,
 }
 
 // How a tile has an outline's edges: as they are, or as they are seen from its corner on a sheet.
-#[derive(Drop)]
+#[derive(Clone, Copy)]
 pub enum View {
     Alone,
     From(Corner),

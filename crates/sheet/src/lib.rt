@@ -28,7 +28,7 @@ use rasterize::{Corner, View};
 use tile::{Built, DONE, NONE_IN};
 
 // A tile's place: the sheet's side and the tile's, in pixels, and the tile's column and row, in whole tiles.
-#[derive(Drop)]
+#[derive(Clone, Copy)]
 pub struct SheetTile {
     pub sheet: u32,
     pub side: u32,
@@ -37,7 +37,7 @@ pub struct SheetTile {
 }
 
 // Where a tile lies: alone, with its side, or on a sheet.
-#[derive(Drop)]
+#[derive(Clone, Copy)]
 pub enum Site {
     Alone(u32),
     OnSheet(SheetTile),

@@ -31,7 +31,7 @@ ghost use Rattle.slanted.specs.Parts.{since as since_of, until as until_of, shif
 use edge::{Axis, Cell, Details, Span, Walk, half_of};
 
 // What all cells share of a walk: what its sums are divided by, and its signs in x and in y.
-#[derive(Drop)]
+#[derive(Clone, Copy)]
 pub struct Slope {
     pub divisor: i64,
     pub x: i64,
@@ -39,7 +39,7 @@ pub struct Slope {
 }
 
 // A walk in a cell, in steps: the first inside and the last, those at which the middles are crossed, and half of the width.
-#[derive(Drop)]
+#[derive(Clone, Copy)]
 pub struct Piece {
     pub first: i64,
     pub last: i64,

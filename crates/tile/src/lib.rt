@@ -21,14 +21,14 @@ use placement::Placement;
 use rasterize::View;
 
 // What building answers: the number of its refusal, or 0, and the edge count.
-#[derive(Drop)]
+#[derive(Clone, Copy)]
 pub struct Built {
     pub number: u32,
     pub edges: u32,
 }
 
 // What is answered for one cell: the number of its refusal, or 0, and its figure.
-#[derive(Drop)]
+#[derive(Clone, Copy)]
 pub struct CellFigure {
     pub number: u32,
     pub figure: i64,
