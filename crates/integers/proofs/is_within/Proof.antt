@@ -6,16 +6,16 @@ use Rattle.integers.specs.Conjunction.{second_decides, first_decides}
 use Rattle.integers.proofs.is_within.Statement.{statement}
 use Rattle.integers.proofs.is_within.Tie as tie
 
-returns : tie.Need-returns
+returns : tie.Need-returns-then-low-z
 returns c =
     let f = c.before.ranges in
-    ap₂ le_z (to_z-of_z f.z) (to_z-of_z f.high) ∙ second_decides _ _ (sym (ap₂ le_z (to_z-of_z f.low) (to_z-of_z f.z)) ∙ c.if1.true)
+    ap₂ le_z (to_z-of_z f.z) (to_z-of_z f.high) ∙ second_decides _ _ (sym (ap₂ le_z (to_z-of_z f.low) (to_z-of_z f.z)) ∙ c.if-low-z.true)
 
-returns-2 : tie.Need-returns-2
+returns-2 : tie.Need-returns-else-low-z
 returns-2 c =
     let f = c.before.ranges in
     let e = ap₂ le_z (to_z-of_z f.low) (to_z-of_z f.z) in
-    e ∙ first_decides _ _ (sym e ∙ c.if1.false)
+    e ∙ first_decides _ _ (sym e ∙ c.if-low-z.false)
 
-pub is-within-spec : {M : Type 1} → statement M
-is-within-spec = tie.close (tie.spec returns returns-2)
+pub is_within_spec : {M : Type 1} → statement M
+is_within_spec = tie.close (tie.spec returns returns-2)

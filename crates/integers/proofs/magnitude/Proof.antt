@@ -21,40 +21,40 @@ use Rattle.integers.proofs.magnitude.Lts as lts
 zero-fits : SFits w64 (pos 0)
 zero-fits = sfits_lit tt
 
-below : (c : lts.Then1 reads.Pre reads.Post) → c.before.args.q <ℤ pos 0
+below : (c : lts.Then-q-lt0 reads.Pre reads.Post) → c.before.args.q <ℤ pos 0
 below c = let f = zero-fits in search tests
 
-add-result : tie.Need-overflow-add-result
+add-result : tie.Need-overflow_add-result
 add-result c = let q = c.before.args.q in linfits (q ∷ []) (lt (below c) & range c.before.ranges.q) (search machine depth 40) (tt, tt)
 
-sub-result : tie.Need-overflow-sub-result
+sub-result : tie.Need-overflow_sub-result
 sub-result c =
     let q = c.before.args.q in
     let f = add-result c in
     linfits (q ∷ []) (lt (below c) & range c.before.ranges.q) (search machine depth 40) (tt, tt)
 
 -- what is cast: −(q + 1), as the machine has it
-abbrev X : lts.Then1 reads.Pre reads.Post → ℤ
+abbrev X : lts.Then-q-lt0 reads.Pre reads.Post → ℤ
 X c = to_z w64 (of_z w64 (pos 0 -ℤ to_z w64 (of_z w64 (to_z w64 (of_z w64 c.before.args.q) +ℤ pos 1))))
 
-X≥0 : (c : lts.Then1 reads.Pre reads.Post) → pos 0 ≤ℤ X c
+X≥0 : (c : lts.Then-q-lt0 reads.Pre reads.Post) → pos 0 ≤ℤ X c
 X≥0 c =
     let q = c.before.args.q in
     let f = add-result c in
     let g = sub-result c in
     lin≤ (q ∷ []) (lt (below c)) (search machine depth 40) tt
 
-X-fits : (c : lts.Then1 reads.Pre reads.Post) → SFits w64 (X c)
+X-fits : (c : lts.Then-q-lt0 reads.Pre reads.Post) → SFits w64 (X c)
 X-fits c =
     let q = c.before.args.q in
     let f = add-result c in
     let g = sub-result c in
     linfits (q ∷ []) (lt (below c) & range c.before.ranges.q) (search machine depth 40) (tt, tt)
 
-cast-result : tie.Need-overflow-cast-result
+cast-result : tie.Need-overflow_cast-result
 cast-result c = (yes_non_neg (X≥0 c), Fits-nat_abs tt (X-fits c))
 
-add-result-2 : tie.Need-overflow-add-result-2
+add-result-2 : tie.Need-overflow_add-result-then-q-lt0
 add-result-2 c = let k : nat_abs (X c) ≤ 2 ^ 63 = nat_abs-le (X c) (X-fits c).sfits in record { fits = omega arith }
 
 -- one more than the magnitude of −(q + 1) is that of q: as integers both are −q
@@ -67,7 +67,7 @@ plus_one (negsuc q) (pos x) h e =
     let j = ≤_of_pos (≤ℤ_of_≡ (sym f)) in
     omega arith
 
-returns : tie.Need-returns
+returns : tie.Need-returns-then-q-lt0
 returns c =
     let q = c.before.args.q in
     let f = add-result c in
@@ -75,10 +75,10 @@ returns c =
     plus_one q (X c) (X≥0 c) (ring (q ∷ []) (search machine depth 40) tt)
 
 -- ---- not below zero
-not-below : (c : lts.Else1 reads.Pre reads.Post) → pos 0 ≤ℤ c.before.args.q
+not-below : (c : lts.Else-q-lt0 reads.Pre reads.Post) → pos 0 ≤ℤ c.before.args.q
 not-below c = let f = zero-fits in search tests
 
-cast-result-2 : tie.Need-overflow-cast-result-2
+cast-result-2 : tie.Need-overflow_cast-result-else-q-lt0
 cast-result-2 c =
     let q = c.before.args.q in
     let x = to_z w64 (of_z w64 q) in
@@ -86,9 +86,9 @@ cast-result-2 c =
     let f : SFits w64 x = linfits (q ∷ []) (range c.before.ranges.q) (search machine depth 40) (tt, tt) in
     (yes_non_neg h, Fits-nat_abs tt f)
 
-returns-2 : tie.Need-returns-2
+returns-2 : tie.Need-returns-else-q-lt0
 returns-2 c = search rules
 
-pub magnitude-spec : {M : Type 1} → statement M
-magnitude-spec =
+pub magnitude_spec : {M : Type 1} → statement M
+magnitude_spec =
     tie.close (tie.spec add-result sub-result cast-result add-result-2 cast-result-2 returns returns-2)

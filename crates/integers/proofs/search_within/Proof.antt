@@ -10,7 +10,6 @@ use mir.Syntax.{w64}
 use mir.Val.{to_z}
 use mir.Facts.{to_z-of_z}
 use borrow.Author.Rules.{rules}
-use borrow.Author.Tests.{not-true, not-false}
 use Rattle.integers.specs.Bits.{back, field_is}
 use Rattle.integers.specs.Tests.{every, between}
 use Rattle.integers.specs.Every.{every_fails, every_next, every_end}
@@ -19,15 +18,15 @@ use Rattle.integers.proofs.search_within.Statement.{statement}
 use Rattle.integers.proofs.search_within.Tie as tie
 
 -- the bounds as they are held
-abbrev invariant-loop : tie.invariant-loop
+abbrev invariant-loop : tie.invariant-loop-i
 invariant-loop numbers low high i₀ i =
     let held = between (to_z w64 low) (to_z w64 high) in
     (i ≤ length numbers) × (every held numbers ≡ every held (drop i numbers)) × (looked_at held numbers ≡ i + looked_at held (drop i numbers))
 
-abbrev decreases-loop : tie.decreases-loop
+abbrev decreases-loop : tie.decreases-loop-i
 decreases-loop numbers low high i₀ i = length numbers - i
 
-loop-holds : tie.Need-loop-init invariant-loop decreases-loop
+loop-holds : tie.Need-loop-i-init invariant-loop decreases-loop
 loop-holds c = (search rules, refl, omega arith)
 
 -- and as they were given
@@ -39,7 +38,7 @@ module _ (s : tie.Start invariant-loop decreases-loop) where
   given = between s.args.low s.args.high
 
   bounds-are : held ≡ given
-  bounds-are = ap₂ between (to_z-of_z s.fits.low) (to_z-of_z s.fits.high)
+  bounds-are = ap₂ between (to_z-of_z s.ranges.low) (to_z-of_z s.ranges.high)
 
   every_given : every held s.args.numbers.now ≡ every given s.args.numbers.now
   every_given = ap (λ test. every test s.args.numbers.now) bounds-are
@@ -48,33 +47,33 @@ module _ (s : tie.Start invariant-loop decreases-loop) where
   looked-given = ap (λ test. looked_at test s.args.numbers.now) bounds-are
 
 -- what the code found of a number
-module _ (c : tie.After-is-within invariant-loop decreases-loop) where
-  found : (b : Bool) → c.is_Within.result ≡ b
-      → (let i = c.before.before in held i.before.before (get_or i.before.before.args.numbers.now i.before.loop.i (pos 0)) ≡ b)
+module _ (c : tie.After-is_within invariant-loop decreases-loop) where
+  found : (b : Bool) → c.is_within.result ≡ b
+      → (let i = c.before.before in held i.before.before (get_or i.before.before.args.numbers.now i.before.loop-i.i (pos 0)) ≡ b)
   found b e =
       let i = c.before.before in
-      sym (ap (held i.before.before) (field_is _ c.before.is-within-arg.given)) ∙ sym c.is_Within.ensures ∙ e
+      sym (ap (held i.before.before) (field_is _ c.before.is_within-arg-1.given)) ∙ sym c.is_within.ensures ∙ e
 
 -- the one after it
-module _ (c : tie.After-is-within2 invariant-loop decreases-loop) where
-  abbrev in-loop : tie.In-loop invariant-loop decreases-loop
+module _ (c : tie.After-is_within-in-loop-i invariant-loop decreases-loop) where
+  abbrev in-loop : tie.In-loop-i invariant-loop decreases-loop
   in-loop = c.before.before.before.before.before
 
-  found-next : (b : Bool) → c.is-within2.result ≡ b
-      → (let i = in-loop in held i.before.before (get_or i.before.before.args.numbers.now (i.before.loop.i + 1) (pos 0)) ≡ b)
-  found-next b e = sym (ap (held in-loop.before.before) (field_is _ c.before.is-within-arg2.given)) ∙ sym c.is-within2.ensures ∙ e
+  found-next : (b : Bool) → c.is_within-in-loop-i.result ≡ b
+      → (let i = in-loop in held i.before.before (get_or i.before.before.args.numbers.now (i.before.loop-i.i + 1) (pos 0)) ≡ b)
+  found-next b e = sym (ap (held in-loop.before.before) (field_is _ c.before.is_within-arg-in-loop-i-1.given)) ∙ sym c.is_within-in-loop-i.ensures ∙ e
 
-  first_passes : (let i = in-loop in held i.before.before (get_or i.before.before.args.numbers.now i.before.loop.i (pos 0)) ≡ true)
-  first_passes = let d = c.before.before in found d.before _ (not-false _ d.if1.false)
+  first_passes : (let i = in-loop in held i.before.before (get_or i.before.before.args.numbers.now i.before.loop-i.i (pos 0)) ≡ true)
+  first_passes = let d = c.before.before in found d.before _ (d.if-not-is_within.false)
 
 -- and the last one, where one is left
-module _ (c : tie.After-is-within3 invariant-loop decreases-loop) where
-  abbrev out-of-loop : tie.After-loop invariant-loop decreases-loop
+module _ (c : tie.After-is_within-then-i-numbers invariant-loop decreases-loop) where
+  abbrev out-of-loop : tie.After-loop-i invariant-loop decreases-loop
   out-of-loop = c.before.before.before
 
-  found-last : (b : Bool) → c.is-within3.result ≡ b
-      → (let i = out-of-loop in held i.before.before (get_or i.before.before.args.numbers.now i.before.loop.i (pos 0)) ≡ b)
-  found-last b e = sym (ap (held out-of-loop.before.before) (field_is _ c.before.is-within-arg3.given)) ∙ sym c.is-within3.ensures ∙ e
+  found-last : (b : Bool) → c.is_within-then-i-numbers.result ≡ b
+      → (let i = out-of-loop in held i.before.before (get_or i.before.before.args.numbers.now i.before.loop-i.i (pos 0)) ≡ b)
+  found-last b e = sym (ap (held out-of-loop.before.before) (field_is _ c.before.is_within-arg-then-i-numbers-1.given)) ∙ sym c.is_within-then-i-numbers.ensures ∙ e
 
 -- ---- one number more, of the rest of a list
 module _ (test : ℤ → Bool) (l : List ℤ) (i : ℕ) (h : i < length l) where
@@ -86,45 +85,45 @@ module _ (test : ℤ → Bool) (l : List ℤ) (i : ℕ) (h : i < length l) where
   in-here : test (get_or l i (pos 0)) ≡ true → (every test (drop i l) ≡ every test (drop (i + 1) l)) × (looked_at test (drop i l) ≡ 1 + looked_at test (drop (i + 1) l))
   in-here e = (every_next test (pos 0) l i h e, omega (arith, looked_next test (pos 0) l i h e))
 
-returns : tie.Need-returns invariant-loop decreases-loop
+returns : tie.Need-returns-then-not-is_within invariant-loop decreases-loop
 returns c =
     let i = c.before.before.before in
     let s = i.before.before in
-    let inv = i.before.loop.invariant in
-    let out = out-here (held s) s.args.numbers.now i.before.loop.i (omega (arith, i.loop-test.true)) (found c.before _ (not-true _ c.if1.true)) in
+    let inv = i.before.loop-i.invariant in
+    let out = out-here (held s) s.args.numbers.now i.before.loop-i.i (omega (arith, i.loop-i-test.true)) (found c.before _ (c.if-not-is_within.true)) in
     (sym (sym (every_given s) ∙ inv.1 ∙ out.0), omega (arith, looked-given s, inv.2, out.1))
 
-returns-2 : tie.Need-returns-2 invariant-loop decreases-loop
+returns-2 : tie.Need-returns-then-not-is_within-2 invariant-loop decreases-loop
 returns-2 c =
     let i = in-loop c.before in
     let s = i.before.before in
-    let inv = i.before.loop.inv in
-    let k = i.before.loop.i in
-    let passes = in-here (held s) s.args.numbers.now k (omega (arith, i.loop-test.taken)) (first_passes c.before) in
-    let out = out-here (held s) s.args.numbers.now (k + 1) (omega (arith, i.loop-test.taken)) (found-next c.before _ (not-true _ c.if2.true)) in
+    let inv = i.before.loop-i.invariant in
+    let k = i.before.loop-i.i in
+    let passes = in-here (held s) s.args.numbers.now k (omega (arith, i.loop-i-test.true)) (first_passes c.before) in
+    let out = out-here (held s) s.args.numbers.now (k + 1) (omega (arith, i.loop-i-test.true)) (found-next c.before _ (c.if-not-is_within-2.true)) in
     (sym (sym (every_given s) ∙ inv.1 ∙ passes.0 ∙ out.0), omega (arith, looked-given s, inv.2, passes.1, out.1))
 
-loop-again : tie.Need-loop-preserved invariant-loop decreases-loop
+loop-again : tie.Need-loop-i-preserved invariant-loop decreases-loop
 loop-again c =
     let i = in-loop c.before in
     let s = i.before.before in
-    let inv = i.before.loop.inv in
-    let k = i.before.loop.i in
+    let inv = i.before.loop-i.invariant in
+    let k = i.before.loop-i.i in
     let l = s.args.numbers.now in
-    let first = in-here (held s) l k (omega (arith, i.loop-test.taken)) (first_passes c.before) in
-    let second = in-here (held s) l (k + 1) (omega (arith, i.loop-test.taken)) (found-next c.before _ (not-false _ c.if2.false)) in
+    let first = in-here (held s) l k (omega (arith, i.loop-i-test.true)) (first_passes c.before) in
+    let second = in-here (held s) l (k + 1) (omega (arith, i.loop-i-test.true)) (found-next c.before _ (c.if-not-is_within-2.false)) in
     let two : (k + 1) + 1 ≡ k + 2 = omega arith in (
-      omega (arith, i.loop-test.taken),
+      omega (arith, i.loop-i-test.true),
       inv.1 ∙ first.0 ∙ second.0 ∙ ap (λ m. every (held s) (drop m l)) two,
       omega (arith, inv.2, first.1, second.1, ap (λ m. looked_at (held s) (drop m l)) two),
     )
 
-returns-3 : tie.Need-returns-3 invariant-loop decreases-loop
+returns-3 : tie.Need-returns-then-not-is_within-3 invariant-loop decreases-loop
 returns-3 c =
     let i = out-of-loop c.before in
     let s = i.before.before in
-    let inv = i.before.loop.inv in
-    let out = out-here (held s) s.args.numbers.now i.before.loop.i c.before.before.before.if3.true (found-last c.before _ (not-true _ c.if4.true)) in
+    let inv = i.before.loop-i.invariant in
+    let out = out-here (held s) s.args.numbers.now i.before.loop-i.i c.before.before.before.if-i-numbers.true (found-last c.before _ (c.if-not-is_within-3.true)) in
     (sym (sym (every_given s) ∙ inv.1 ∙ out.0), omega (arith, looked-given s, inv.2, out.1))
 
 -- at the end of the list
@@ -135,48 +134,48 @@ module _ (s : tie.Start invariant-loop decreases-loop) (i : ℕ) (h : length s.a
   looked-end-here : looked_at (held s) (drop i s.args.numbers.now) ≡ 0
   looked-end-here = looked_end (held s) (pos 0) s.args.numbers.now i h
 
-returns-4 : tie.Need-returns-4 invariant-loop decreases-loop
+returns-4 : tie.Need-returns-else-not-is_within-3 invariant-loop decreases-loop
 returns-4 c =
     let i = out-of-loop c.before in
     let s = i.before.before in
-    let inv = i.before.loop.inv in
-    let k = i.before.loop.i in
-    let end : length s.args.numbers.now ≤ k + 1 = omega (arith, i.loop-test.left) in
-    let passes = in-here (held s) s.args.numbers.now k c.before.before.before.if3.true (found-last c.before _ (not-false _ c.if4.false)) in (
+    let inv = i.before.loop-i.invariant in
+    let k = i.before.loop-i.i in
+    let end : length s.args.numbers.now ≤ k + 1 = omega (arith, i.loop-i-test.false) in
+    let passes = in-here (held s) s.args.numbers.now k c.before.before.before.if-i-numbers.true (found-last c.before _ (c.if-not-is_within-3.false)) in (
       sym (sym (every_given s) ∙ inv.1 ∙ passes.0 ∙ every-end-here s (k + 1) end),
-      omega (arith, looked-given s, inv.2, passes.1, looked-end-here s (k + 1) end, end, c.before.before.before.if3.true),
+      omega (arith, looked-given s, inv.2, passes.1, looked-end-here s (k + 1) end, end, c.before.before.before.if-i-numbers.true),
     )
 
-returns-5 : tie.Need-returns-5 invariant-loop decreases-loop
+returns-5 : tie.Need-returns-else-i-numbers invariant-loop decreases-loop
 returns-5 c =
     let i = c.before in
     let s = i.before.before in
-    let inv = i.before.loop.invariant in (
-      sym (sym (every_given s) ∙ inv.1 ∙ every-end-here s i.before.loop.i c.if3.false),
-      omega (arith, looked-given s, inv.0, inv.2, looked-end-here s i.before.loop.i c.if3.false, c.if3.false),
+    let inv = i.before.loop-i.invariant in (
+      sym (sym (every_given s) ∙ inv.1 ∙ every-end-here s i.before.loop-i.i c.if-i-numbers.false),
+      omega (arith, looked-given s, inv.0, inv.2, looked-end-here s i.before.loop-i.i c.if-i-numbers.false, c.if-i-numbers.false),
     )
 
-pub search-within-spec : {M : Type 1} → statement M
-search-within-spec =
+pub search_within_spec : {M : Type 1} → statement M
+search_within_spec =
     tie.close
     (tie.spec
     invariant-loop
     decreases-loop
     loop-holds
-    (λ c. omega (arith, c.loop.invariant.0))
+    (λ c. omega (arith, c.loop-i.invariant.0))
     (λ c. search rules)
-    (λ c. omega (arith, c.loop-test.true))
+    (λ c. omega (arith, c.loop-i-test.true))
     (λ c κs. search rules)
     (λ c. search rules)
     returns
     (λ c. search rules)
     (λ c. search rules)
-    (λ c. omega (arith, c.before.before.before.loop-test.true))
+    (λ c. omega (arith, c.before.before.before.loop-i-test.true))
     (λ c κs. search rules)
     (λ c. search rules)
     returns-2
     (λ c. search rules)
-    (λ c. omega (arith, (in-loop c.before).loop-test.taken))
+    (λ c. omega (arith, (in-loop c.before).loop-i-test.true))
     loop-again
     (λ c. search rules)
     (λ c. search rules)
