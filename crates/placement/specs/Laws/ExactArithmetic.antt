@@ -63,6 +63,10 @@ round_at s num den q t D T' Q h =
 -- ---- the product
 pub mul_exact : (x y : Float) (k l : ℤ) (t u : ℕ) → t + u ≤ finest → Value x k (2 ^ t) → Value y l (2 ^ u) → unsigned_abs k * unsigned_abs l < 2 ^ kept_digits → Value (mul binary64 x y) (k *ℤ l) (2 ^ (t + u))
 unfolding mul
+mul_exact nan y k l t u b v w small = absurd v
+mul_exact (inf s) y k l t u b v w small = absurd v
+mul_exact (fin s m e) nan k l t u b v w small = absurd w
+mul_exact (fin s m e) (inf s') k l t u b v w small = absurd w
 mul_exact (fin s m e) (fin s' n d) k l t u b v w small =
     let h = has s m e k (2 ^ t) v in
     let g = has s' n d l (2 ^ u) w in
@@ -145,6 +149,10 @@ module _ (a b C p r t : ℕ) (D : 0 < C) (B : t ≤ finest) (A : a * 2 ^ t ≡ p
 
 pub add_exact : (x y : Float) (k l : ℤ) (t : ℕ) → t ≤ finest → Value x k (2 ^ t) → Value y l (2 ^ t) → unsigned_abs k + unsigned_abs l < 2 ^ kept_digits → Value (add binary64 x y) (k +ℤ l) (2 ^ t)
 unfolding add
+add_exact nan y k l t b v w small = absurd v
+add_exact (inf s) y k l t b v w small = absurd v
+add_exact (fin s m e) nan k l t b v w small = absurd w
+add_exact (fin s m e) (inf s') k l t b v w small = absurd w
 add_exact (fin s m e) (fin s' n d) k l t b v w small =
     let h = has s m e k (2 ^ t) v in
     let g = has s' n d l (2 ^ t) w in

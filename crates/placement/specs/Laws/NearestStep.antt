@@ -35,6 +35,6 @@ shr_nearest k =
 pub shifted : {z : ℤ} (k : ℤ) → FitsSigned w64 z → z ≡ k +ℤ half → to_z w64 (of_z w64 (shr_z (to_z w64 (of_z w64 z)) parts_per_step)) ≡ nearest k
 shifted {z} k f e =
     ap (λ (z : ℤ). to_z w64 (of_z w64 (shr_z z parts_per_step))) (to_z-of_z f)
-    ∙ to_z-of_z (record { sfits = lt_of_le_of_lt (mag_shr z parts_per_step) f.sfits })
+    ∙ to_z-of_z {w = w64} (record { sfits = lt_of_le_of_lt (mag_shr z parts_per_step) f.sfits })
     ∙ ap (λ (z : ℤ). shr_z z parts_per_step) e
     ∙ shr_nearest k
