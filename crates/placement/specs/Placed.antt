@@ -3,12 +3,12 @@
 --
 -- Definitions
 --   parts_at a b c x y                 a × x + b × y + c, in parts
---   across_of p x y, down_of p x y      where a placement takes the point (x, y)
---   placed p points                   the coordinates of an outline as placed
+--   across_of p x y, down_of p x y     where a placement takes the point (x, y)
+--   placed p points                    the coordinates of an outline as placed
 --   is_moving p                        does the placement move points?
---   row_usable a b c, floats_usable p   is every float a multiple of 1/65,536 in its range: of a turn's row, of a placement?
+--   row_usable a b c, floats_usable p  is every float a multiple of 1/65,536 in its range: of a turn's row, of a placement?
 --   is_movable z                       may a coordinate be moved?
---   placeable p points                question 12
+--   placeable p points                 question 12
 use Rattle.std.specs.Prelude.{◌-◌, Bool, true, false, not, ◌&&◌, ◌||◌, List, [], ◌∷◌, ℤ, pos, ◌+ℤ◌, ◌*ℤ◌, neg_ℤ, Float}
 use Rattle.integers.specs.Units.{parts_per_step, factor_limit, offset_limit, movable_limit}
 use Rattle.integers.specs.Tests.{every, between}
@@ -61,6 +61,6 @@ floats_usable (Turn m) = row_usable m.a m.b m.c && row_usable m.d m.e m.f
 abbrev pub is_movable : ℤ → Bool
 is_movable = between (neg_ℤ (pos movable_limit)) (pos (movable_limit - 1))
 
--- "A float or a point to be moved outside these rules, an infinity or a not_a_number gives 12". With no placement no point is moved, and none is outside.
+-- "A float or a point to be moved outside these rules, an infinity or a not-a-number gives 12". With no placement no point is moved, and none is outside.
 abbrev pub placeable : Placement → List ℤ → Bool
 placeable p points = not (is_moving p) || (floats_usable p && every is_movable points)

@@ -1,4 +1,4 @@
--- A float compared with a limit and its negative, as the code compares it. A not_a_number fails both comparisons, an infinity one of them.
+-- A float compared with a limit and its negative, as the code compares it. A not-a-number fails both comparisons, an infinity one of them.
 --
 -- Main results
 --   same                          two tests that pass together are equal

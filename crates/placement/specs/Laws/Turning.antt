@@ -2,12 +2,12 @@
 -- keeps every whole number up to 2^53.
 --
 -- Definitions
---   product_limit                  a factor's greatest number of parts times the greatest coordinate
+--   product_limit                 a factor's greatest number of parts times the greatest coordinate
 -- Main results
 --   movable_small                 a coordinate that may be moved is at most 32,768 in magnitude
 --   a_usable .. y_small           what `Ready` says, number by number
 --   sum_bound, all_bound          the terms of each sum
---   parts_at-bound                 the result is at most the greatest placed coordinate
+--   parts_at-bound                the result is at most the greatest placed coordinate
 use Rattle.std.specs.Prelude.{◌≡◌, ℕ, ◌+◌, ◌-◌, ◌*◌, ◌≤◌, true, ◌&&◌, ℤ, pos, ◌+ℤ◌, ◌*ℤ◌, neg_ℤ, unsigned_abs, Float}
 use Rattle.std.proofs.Common.{mul-le-mul, le_trans, le_of_eq, arith}
 use Rattle.std.specs.Int.Signed.{le_z_yes}
