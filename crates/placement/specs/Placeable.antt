@@ -15,7 +15,6 @@ use Rattle.integers.specs.Tests.{every, and_means, every_means, between_means}
 use Rattle.placement.specs.Parts.{parts_of, is_multiple, Multiple, one, nought}
 use Rattle.placement.specs.Placed.{row_usable, is_movable, placeable, placed}
 use Rattle.placement.specs.Multiples.{multiple_means}
-use Rattle.placement.specs.declared.Matrix.{Matrix}
 use Rattle.placement.specs.declared.Placement.{Placement}
 use Rattle.placement.specs.declared.Placement.TheVariants.{None, Shift, Scale, Turn}
 

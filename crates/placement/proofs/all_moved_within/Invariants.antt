@@ -1,6 +1,5 @@
 -- The coordinates from 2 k on decide.
 use Rattle.std.proofs.Common.{◌≡◌, ◌-◌, ◌*◌, ◌/◌, ◌≤◌, length, drop}
-use Rattle.integers.specs.Bits.{back}
 use Rattle.integers.specs.Tests.{every, between}
 use Rattle.placement.specs.Placed.{placed}
 use Rattle.placement.proofs.all_moved_within.Given as goal

@@ -1,5 +1,5 @@
 -- v × 65,536 is exact and whole, so it is cut to the number of its parts; half a step is added, and the sum shifted.
-use Rattle.std.proofs.Common.{◌≡◌, ◌*◌, ◌≤◌, true, [], ◌∷◌, pos, nat_abs, ◌∙◌, le_trans, lit≤}
+use Rattle.std.proofs.Common.{◌≡◌, ◌*◌, ◌≤◌, true, [], ◌∷◌, pos, ◌∙◌, le_trans, lit≤}
 use Rattle.std.proofs.Math.Path.{subst⁻¹}
 use Rattle.std.specs.Prelude.{Float, unsigned_abs}
 use Rattle.integers.specs.Ring.{read, comb}
