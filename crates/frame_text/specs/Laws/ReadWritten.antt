@@ -5,7 +5,7 @@
 --   lines_line, closes_line          lines are where they were written
 --   written_is_frame                 the text of a frame passes question 11
 --   written_frame                    and what is read of it is the frame
-use Rattle.std.specs.Prelude.{◌≡◌, ℕ, suc, ◌+◌, ◌*◌, ◌/◌, ◌%◌, ◌<◌, ◌≤◌, Bool, true, false, cond, ◌&&◌, List, [], ◌∷◌, ◌++◌, map, length, take, drop, ℤ, pos, negsuc, ◌≤ℤ◌, ◌==◌, unsigned_abs, refl}
+use Rattle.std.specs.Prelude.{◌≡◌, ℕ, suc, ◌*◌, ◌/◌, ◌%◌, ◌<◌, ◌≤◌, Bool, true, false, cond, ◌&&◌, List, [], ◌∷◌, ◌++◌, map, length, take, drop, ℤ, pos, negsuc, ◌≤ℤ◌, ◌==◌, unsigned_abs, refl}
 use Rattle.std.proofs.Common.{sym, ◌∙◌, true≢false, append_assoc, suc-mul, mul-div_cancel, arith, length-append, length-drop, take-append-drop, length-take-le, eqb-true, eq-eqb, le-leb, lt-ltb}
 use Rattle.std.proofs.Math.Path.{ap, ap₂}
 use Rattle.std.proofs.Math.Nat.{mul-mod_left}

@@ -8,7 +8,7 @@
 --   body_coordinates_next, body_counts_next   what is read of it and of the lines after it
 --   Framed, framed                         a frame's first line, and the text after it
 --   frame_is                               what is read of both
-use Rattle.std.specs.Prelude.{◌≡◌, ℕ, suc, ◌+◌, ◌/◌, ◌%◌, ◌<◌, ◌≤◌, true, false, ◌&&◌, List, [], ◌∷◌, ◌++◌, map, length, take, drop, pos, ◌==◌, nat_le, nat_lt, refl}
+use Rattle.std.specs.Prelude.{◌≡◌, ℕ, suc, ◌/◌, ◌%◌, ◌<◌, ◌≤◌, true, ◌&&◌, List, [], ◌∷◌, ◌++◌, map, length, take, drop, pos, ◌==◌, nat_le, nat_lt, refl}
 use Rattle.std.proofs.Common.{sym, ◌∙◌, ap, ap₂, subst, true≢false, arith, length-take-le, eqb-true, leb-true, ltb-true}
 use Rattle.std.proofs.Math.Decide.{dec_lt}
 use Rattle.integers.specs.Units.{text_limit}
