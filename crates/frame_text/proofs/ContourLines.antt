@@ -1,10 +1,11 @@
 -- The contours of a frame, line by line: what is read up to a place of the text, and what is left.
 --
 -- Main results
---   rest-long                            how much of the text is left
 --   LinesRead, lines_start               what the two lists hold when the lines up to a place are read
---   line-closed                          the next line
---   lines_step, lines-end                it is read; none is left
+--   NextLine, next_line                  the next line
+--   points_room, counts-room             there is room for it
+--   lines_step                           it is read
+--   all_points, all_counts, whole_size   none is left
 use Rattle.std.proofs.Common.{◌≡◌, ℕ, suc, ◌+◌, ◌-◌, ◌*◌, ◌/◌, ◌%◌, ◌<◌, ◌≤◌, true, List, [], ◌∷◌, ◌++◌, length, take, drop, set, ℤ, sym, refl, ap, ◌∙◌, subst, ap₂, arith, length-append, length-drop, length-set, drop_of_length-le, length-take-le, drop-drop}
 use Rattle.frame_text.specs.declared.reading.Size.{Size}
 use Rattle.frame_text.specs.Over.{over}
