@@ -1,0 +1,28 @@
+-- The steps of a direction between its two sides.
+use Rattle.std.proofs.Common.{◌≡◌, [], ℤ, ◌∙◌, ap₂, to_z-of_z}
+use Rattle.integers.specs.Linear.{none!, linear, lin≤}
+use Rattle.integers.specs.Within.{within_le}
+use Rattle.integers.specs.Held.{held_fits, held_back, held_within}
+use Rattle.edge.specs.Cuts.{strip}
+use Rattle.edge.proofs.AxisNumbers.{sign-held, side_held, sum-held}
+use Rattle.edge.proofs.strip_of.Goals as goal
+
+pub overflow_mul-lower : goal.overflow_mul-lower
+overflow_mul-lower c = held_fits tt (side_held c.requires)
+
+pub overflow_add-lower : goal.overflow_add-lower
+overflow_add-lower c = held_fits tt (sum-held c.requires c.ranges.width)
+
+pub strip-requires : goal.strip-requires
+strip-requires c = (
+  within_le (lin≤ [] none! (search linear depth 40) tt) (held_within (held_back tt (side_held c.requires))),
+  within_le (lin≤ [] none! (search linear depth 40) tt) (held_within (held_back tt (sum-held c.requires c.ranges.width))),
+)
+
+strip-eq : {s s' p p' q q' n n' : ℤ} → s ≡ s' → p ≡ p' → q ≡ q' → n ≡ n' → strip s p q n ≡ strip s' p' q' n'
+strip-eq {s} {s'} {p} {p'} {q} {q'} {n} {n'} i j k l = ap₂ (λ x y. strip x y q n) i j ∙ ap₂ (strip s' p') k l
+
+pub returns : goal.returns
+returns c =
+    let r = c.requires in
+    c.strip.ensures ∙ strip-eq (sign-held r).is (held_back tt (side_held r)).is (held_back tt (sum-held r c.ranges.width)).is (to_z-of_z c.ranges.n)
