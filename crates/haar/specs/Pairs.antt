@@ -27,15 +27,15 @@ scale_limit = children dimensions ^ (greatest_depth - 1)
 abbrev pub parent_limit : ℕ
 parent_limit = scale_limit * entry_limit
 
--- a cell's figure, its level's scale and its details
-pub record PairBounds (f scale h v d : ℤ) : Type 0 where
+-- a cell's figure, its level's scale, the same with v's sign, and its details
+pub record PairBounds (f scale turned h v d : ℤ) : Type 0 where
   pub figure_within : Within (pos parent_limit) f
   pub scale_within : Within (pos scale_limit) scale
+  pub turned_within : Within (pos scale_limit) turned
   pub h_within : Within (pos entry_limit) h
   pub v_within : Within (pos entry_limit) v
   pub d_within : Within (pos entry_limit) d
 
--- `turned` is the scale with the sign of v
 abbrev pub pair_of : ℤ → ℤ → ℤ → ℤ → ℤ → ℤ → Pair
 pair_of f scale turned h v d = record {
   left = f +ℤ turned *ℤ v +ℤ (scale *ℤ h +ℤ turned *ℤ d);

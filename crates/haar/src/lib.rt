@@ -97,7 +97,7 @@ fn turned_in_row(z: i64, cy: usize) -> i64
 // (f ± scale v), plus and minus (scale h ± scale d), with the sign of row cy. The products have no sign yet, so that both rows below a cell have the same
 // three.
 fn beside(f: i64, scale: i64, cy: usize, h: i64, v: i64, d: i64) -> Pair
-    requires { PairBounds f scale h v d }
+    requires { PairBounds f scale (half_sign (cy % 2) *ℤ scale) h v d }
     ensures { result ≡ pair_of f scale (half_sign (cy % 2) *ℤ scale) h v d }
 {
     let middle = f + turned_in_row(scale * v, cy);

@@ -1,0 +1,10 @@
+-- From the last row of parents to the first.
+use Rattle.std.proofs.Common.{pos}
+use Rattle.haar.proofs.NextLevel.{LevelBelow}
+use Rattle.haar.proofs.refine.Given as goal
+
+abbrev pub invariant-loop-y : goal.invariant-loop-y
+invariant-loop-y l = LevelBelow (λ z. z) (pos 0) l.table l.level l.initial.picture l.picture l.y
+
+abbrev pub decreases-loop-y : goal.decreases-loop-y
+decreases-loop-y l = l.y
