@@ -2,11 +2,10 @@
 --
 -- Main results
 --   LevelNumbers, level_numbers       the cells across, and their square
---   index-few                         a row and a column, as a place
 use mathlib.Core.Path.{◌≡◌, ◌∙◌, ap₂}
-use Prim.Native.Nat.{ℕ, ◌+◌, ◌*◌, ◌-◌, ◌^◌, ◌<◌, ◌≤◌}
+use Prim.Native.Nat.{ℕ, ◌*◌, ◌-◌, ◌^◌, ◌<◌, ◌≤◌}
 use native.Mathlib.Omega.{arith}
-use native.Mathlib.Nat.{mul-le-mul, mul-le-mul_right}
+use native.Mathlib.Nat.{mul-le-mul}
 use lib.Pow.{pow_mono}
 use Rattle.integers.specs.Units.{greatest_depth}
 use Rattle.haar.specs.Cells.{children}
@@ -23,6 +22,3 @@ pub level_numbers : {level n : ℕ} → level < greatest_depth → n ≡ 2 ^ lev
 level_numbers {level} {n} h e =
     let g : n ≤ 2 ^ (greatest_depth - 1) = omega (arith, pow_mono {i = level} {j = greatest_depth - 1} (omega arith)) in
     record { across = g; square = ap₂ ◌*◌ e e ∙ level_square level; few = mul-le-mul g g }
-
-pub index-few : {n x y : ℕ} → x < n → y < n → y * n + x < n * n
-index-few {n} h k = omega (arith, mul-le-mul_right n k)

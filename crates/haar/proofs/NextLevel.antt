@@ -2,12 +2,11 @@
 --
 -- Main results
 --   LevelBelow                                what is drawn when y rows of parents are left
---   level_start, level_step                   nothing, two rows more
+--   level_step                                two rows more
 --   level_entry                               all: each figure, or what is made of it, is in its place
---   level_parents                             in place, the parents of the next two rows are still there
 --   root_figures                              the root is the figure of level 0
 --   below_drawable                            what a level above the one that is asked for asks
-use mathlib.Core.Path.{◌≡◌, refl, ◌∙◌, ap, ap₂, subst}
+use mathlib.Core.Path.{◌≡◌, ◌∙◌, ap, ap₂, subst}
 use mathlib.Core.List.{List}
 use Prim.Native.Nat.{ℕ, suc, ◌+◌, ◌*◌, ◌-◌, ◌/◌, ◌%◌, ◌^◌, ◌<◌, ◌≤◌}
 use native.Mathlib.Omega.{arith}
@@ -19,7 +18,7 @@ use lib.IntN.{ℤ, pos}
 use Rattle.haar.specs.Cells.{children}
 use Rattle.haar.specs.Plane.{dimensions, figure_in}
 use Rattle.haar.specs.Drawable.{Drawable}
-use Rattle.haar.specs.Levels.{HasFigures, DrawableBelow, RowParents, RowsBelow}
+use Rattle.haar.specs.Levels.{HasFigures, DrawableBelow, RowsBelow}
 use Rattle.haar.proofs.Above.{shallower}
 
 module _ {A : Type 0} (g : ℤ → A) (o : A) (entries : List ℤ) (level : ℕ) (before : List A) where
@@ -36,15 +35,6 @@ row_before : (level y : ℕ) → 0 < y → y * 2 ^ level ≡ (y - 1) * 2 ^ level
 row_before level y h = ap (λ k. k * 2 ^ level) {y = suc (y - 1)} (omega arith) ∙ omega arith
 
 module _ {A : Type 0} {g : ℤ → A} {o : A} {entries : List ℤ} {level : ℕ} {before : List A} where
-  pub level_start : {y : ℕ} → y ≡ 2 ^ level → LevelBelow g o entries level before before y
-  level_start e = record {
-    same_length = refl;
-    few = omega arith;
-    upper = λ j i h k t. absurd (omega arith);
-    lower = λ j i h k t. absurd (omega arith);
-    low = λ k h. refl;
-  }
-
   pub level_step : {l drawn : List A} {y : ℕ} → 0 < y → LevelBelow g o entries level before l y → RowsBelow g o entries level (y - 1) l drawn 0
       → LevelBelow g o entries level before drawn (y - 1)
   level_step {l} {drawn} {y} h b r = record {
@@ -86,13 +76,6 @@ module _ {A : Type 0} {g : ℤ → A} {o : A} {entries : List ℤ} {level : ℕ}
             ∙ b.lower (cy / 2) cx (omega arith) (omega arith) (omega arith)
             ∙ ap (λ j. g (figure_in entries (suc level) cx j)) {y = cy} (omega arith))
       ]
-
-module _ {entries : List ℤ} {level : ℕ} {before l : List ℤ} {y : ℕ} (b : LevelBelow (λ z. z) (pos 0) entries level before l y) where
-  pub level_parents : 0 < y → HasFigures entries level before → RowParents entries level (y - 1) l
-  level_parents h f = record {
-    y_below = omega (arith, b.few);
-    entry = λ x k. b.low _ (omega (arith, row_before level y h)) ∙ f.entry x (y - 1) k (omega (arith, b.few));
-  }
 
 -- ---- from the root down
 pub root_figures : {entries : List ℤ} {root : ℤ} (l : List ℤ) → 0 < length l → ((cx cy : ℕ) → root ≡ figure_in entries 0 cx cy) → HasFigures entries 0 (set l 0 root)

@@ -3,7 +3,7 @@
 -- Main results
 --   root-picture                              the picture of level 0
 --   Stacked                                   so many levels are drawn
---   stacked_root, stacked_step, stacked_end   level 0, one level more, all
+--   stacked_root, stacked_step                level 0, one level more
 use mathlib.Core.Path.{◌≡◌, sym, ◌∙◌, ap, ap₂, subst⁻¹}
 use mathlib.Core.List.{List, ◌++◌, append_assoc}
 use Prim.Native.Nat.{ℕ, suc, ◌+◌, ◌*◌, ◌-◌, ◌^◌, ◌<◌, ◌≤◌}
@@ -11,7 +11,7 @@ use native.Mathlib.Omega.{arith}
 use native.Mathlib.Nat.{pow-zero}
 use borrow.Rule.Slice.PartMut.{put_mid, post_of, same_len_mid}
 use lib.ListN.{length, get_or, set, take, drop, length-set, length-append, length-drop}
-use lib.Seq.{length-take-le, get_or-take, get_or-set_same, take_at, take_all}
+use lib.Seq.{length-take-le, get_or-take, get_or-set_same, take_at}
 use lib.IntN.{ℤ}
 use Rattle.haar.specs.Cells.{children}
 use Rattle.haar.specs.Table.{stored}
@@ -67,6 +67,3 @@ module _ {A : Type 0} {g : ℤ → A} {entries : List ℤ} {room : ℕ} where
 
       both : length (take start l ++ part) ≡ places (suc levels)
       both = length-append (take start l) part ∙ omega (arith, size, part_length, length-take-le start l (let b : start ≤ length l = omega (arith, size, t.same_length) in b))
-
-  pub stacked_end : {l : List A} {levels : ℕ} → room ≡ places levels → Stacked g entries room l levels → l ≡ pyramid_in g entries levels
-  stacked_end {l} {levels} e t = sym (take_all (places levels) l (omega (arith, t.same_length))) ∙ t.drawn

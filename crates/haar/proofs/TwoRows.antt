@@ -3,29 +3,25 @@
 -- Main results
 --   RowPlaces, row-places                     where the rows stand
 --   NextCell, next_cell                       which cell is next
---   parent-kept, row-parent                   its figure is where it was, in place too
---   row_refinable                             what its children ask for
---   rows_start, rows_step, rows_end           none is drawn, one cell's children more, all are
-use mathlib.Core.Path.{◌≡◌, refl, ◌∙◌, ap, subst, subst⁻¹, subst₂}
+--   rows_step                                 one cell's children more are drawn
+use mathlib.Core.Path.{◌≡◌, ◌∙◌, ap, subst⁻¹, subst₂}
 use mathlib.Core.List.{List}
 use mathlib.Core.Logic.{◌≢◌}
-use Prim.Native.Nat.{ℕ, suc, ◌+◌, ◌*◌, ◌-◌, ◌/◌, ◌^◌, ◌<◌, ◌≤◌}
+use Prim.Native.Nat.{ℕ, suc, ◌+◌, ◌*◌, ◌-◌, ◌^◌, ◌<◌, ◌≤◌}
 use native.Mathlib.Omega.{arith}
 use native.Mathlib.Decide.{dec_lt}
 use native.Mathlib.Nat.{pow-succ', mul-le-mul, mul-le-mul_right}
 use lib.ListN.{length, get_or, set, length-set}
 use lib.Seq.{get_or-set_same, get_or-set_other}
 use lib.Pow.{pow_mono}
-use lib.IntN.{ℤ, pos}
+use lib.IntN.{ℤ}
 use Rattle.integers.specs.Units.{greatest_side}
-use Rattle.integers.specs.Bits.{back, back_is}
 use Rattle.haar.specs.Cells.{children}
 use Rattle.haar.specs.Plane.{dimensions, figure_in}
-use Rattle.haar.specs.Pairs.{Refinable, IsPair}
-use Rattle.haar.specs.Levels.{put_pair, DrawableBelow, RowParents, RowsBelow}
+use Rattle.haar.specs.Pairs.{IsPair}
+use Rattle.haar.specs.Levels.{put_pair, DrawableBelow, RowsBelow}
 use Rattle.haar.specs.Laws.Cells.{level_square}
 use Rattle.haar.specs.declared.Pair.{Pair}
-use Rattle.haar.proofs.CellDetails.{parent_within}
 
 -- ---- a pair in a list
 module _ {A : Type 0} (o a b : A) (k : ℕ) (l : List A) where
@@ -68,39 +64,7 @@ pub next_cell : {A : Type 0} {g : ℤ → A} {o : A} {entries : List ℤ} {level
     → RowsBelow g o entries level y before l x → 0 < x → x ≤ n → NextCell n y x (length l)
 next_cell {n = n} {y} p r h k = record { places = subst⁻¹ (RowPlaces n y) r.same_length p; left = h; within = k }
 
--- ---- what the cell that is next asks for
-module _ {entries : List ℤ} {level n y x : ℕ} (e : n ≡ 2 ^ level) where
-  -- where the picture is drawn over its parents
-  pub parent-kept : {A : Type 0} {g : ℤ → A} {o : A} {before l : List A} {room : ℕ} → NextCell n y x room → RowsBelow g o entries level y before l x
-      → get_or l (y * n + (x - 1)) o ≡ get_or before (y * n + (x - 1)) o
-  parent-kept p r = r.low _ (omega (arith, p.left, ap (λ n. y * n) e))
-
-  pub row-parent : {l : List ℤ} {room : ℕ} → NextCell n y x room → RowParents entries level y l
-      → get_or l (y * n + (x - 1)) (pos 0) ≡ figure_in entries level (x - 1) y
-  row-parent {l} p r = ap (λ n. get_or l (y * n + (x - 1)) (pos 0)) e ∙ r.entry (x - 1) (omega (arith, p.left, p.within))
-
-  -- of its children in row cy, by its figure as it is read
-  pub row_refinable : {room size cy : ℕ} {f : ℤ} → DrawableBelow entries level room → NextCell n y x size → cy / 2 ≡ y → f ≡ figure_in entries level (x - 1) y
-      → Refinable entries level (x - 1) cy (back f)
-  row_refinable {cy = cy} {f} d p q h =
-      let r : Refinable entries level (x - 1) cy f = record {
-        drawable = d.drawable;
-        x_below = omega (arith, p.left, p.within);
-        y_below = omega (arith, p.places.row, pow-succ' 2 level);
-        is_figure = h ∙ ap (λ j. figure_in entries level (x - 1) j) {y = cy / 2} (omega arith);
-      } in
-      subst⁻¹ (Refinable entries level (x - 1) cy) (back_is tt (parent_within r)) r
-
 module _ {A : Type 0} {g : ℤ → A} {o : A} {entries : List ℤ} {level y : ℕ} {before : List A} where
-  pub rows_start : {x : ℕ} → x ≡ 2 ^ level → RowsBelow g o entries level y before before x
-  rows_start e = record {
-    same_length = refl;
-    upper = λ i h k. absurd (omega arith);
-    lower = λ i h k. absurd (omega arith);
-    low = λ k h. refl;
-    high = λ k h. refl;
-  }
-
   -- one cell's children: a and b in the upper row, at k, and c and d below them, at m
   rows_put : {l : List A} {x k m : ℕ} {a b c d : A} → RowPlaces (2 ^ level) y (length before) → 0 < x → x ≤ 2 ^ level
       → RowsBelow g o entries level y before l x → k ≡ 4 * (y * 2 ^ level) + 2 * (x - 1) → m ≡ k + 2 * 2 ^ level
@@ -154,6 +118,3 @@ module _ {A : Type 0} {g : ℤ → A} {o : A} {entries : List ℤ} {level y : �
       subst⁻¹ (λ l. RowsBelow g o entries level y before l (x - 1)) (second ∙ ap (put_pair (g q.left) (g q.right) m) first)
       (rows_put (subst₂ (λ n room. RowPlaces n y room) e r.same_length c.places) c.left (omega (arith, c.within)) r (omega arith) (omega arith)
       (ap g up.left_is) (ap g up.right_is) (ap g down.left_is) (ap g down.right_is))
-
-  pub rows_end : {l : List A} {x : ℕ} → x ≡ 0 → RowsBelow g o entries level y before l x → RowsBelow g o entries level y before l 0
-  rows_end {l} e r = subst (RowsBelow g o entries level y before l) e r
