@@ -1,9 +1,11 @@
-// What the test programs print: words, numbers, and in place of a long line of numbers its checksum. No function here has a contract: what a program
-// prints is compared with its `stdout`.
+// What the test programs read and print: the input into a list, words, numbers, and in place of a long line of numbers its checksum. No
+// printing function has a contract: what a program prints is compared with its `stdout`.
 #![tactic(auto)]
 
+ghost use Rattle.std.specs.Prelude.{◌≤◌, IfOk, length};
+
 use integers::magnitude;
-use libc::STDOUT_FILENO;
+use std::io::{Read, Result, Write};
 
 // A line of more numbers has a checksum in their place.
 const SHORT: usize = 64;
@@ -13,29 +15,43 @@ const BASE: u64 = 1000003;
 
 const MODULUS: u64 = 1000000007;
 
-pub fn words(text: &[u8]) {
-    io::write_all(STDOUT_FILENO, text);
+// A program reads no more of its input than this.
+pub const INPUT_LIMIT: usize = 65536;
+
+// Reads until the list is full or the input ends. Answers how many bytes there are.
+pub fn read_full<R: Read>(input: &mut R, list: &mut [u8]) -> Result<usize>
+    ensures { IfOk result (λ n. n ≤ length list.new) }
+{
+    let mut done = 0;
+    while done < list.len() {
+        let n = input.read(&mut list[done..])?;
+        if n == 0 {
+            break;
+        }
+        done += n;
+    }
+    Ok(done)
+}
+
+pub fn words<W: Write>(out: &mut W, text: &[u8]) -> Result<()> {
+    out.write_all(text)
 }
 
 // A name, a space and the number.
-pub fn named(name: &[u8], n: u64) {
-    words(name);
-    words(b" ");
-    io::print_decimal(STDOUT_FILENO, n);
+pub fn named<W: Write>(out: &mut W, name: &[u8], n: u64) -> Result<()> {
+    words(out, name)?;
+    write!(out, " {n}")
 }
 
 // The number, with nothing before its sign.
-pub fn decimal(q: i64) {
-    if q < 0 {
-        words(b"-");
-    }
-    io::print_decimal(STDOUT_FILENO, magnitude(q));
+pub fn decimal<W: Write>(out: &mut W, q: i64) -> Result<()> {
+    write!(out, "{q}")
 }
 
 // A space and the number.
-pub fn number(q: i64) {
-    words(b" ");
-    decimal(q);
+pub fn number<W: Write>(out: &mut W, q: i64) -> Result<()> {
+    words(out, b" ")?;
+    decimal(out, q)
 }
 
 // ---- a line of n numbers, or their checksum
@@ -51,34 +67,34 @@ fn mixed(sum: u64, q: i64) -> u64 {
 }
 
 // One number of a line of n. Answers the checksum so far.
-pub fn tell(n: usize, sum: u64, q: i64) -> u64 {
+pub fn tell<W: Write>(out: &mut W, n: usize, sum: u64, q: i64) -> Result<u64> {
     if n <= SHORT {
-        number(q);
-        return sum;
+        number(out, q)?;
+        return Ok(sum);
     }
-    mixed(sum, q)
+    Ok(mixed(sum, q))
 }
 
 // The end of a line of n.
-pub fn end(n: usize, sum: u64) {
+pub fn end<W: Write>(out: &mut W, n: usize, sum: u64) -> Result<()> {
     if SHORT < n {
-        named(b" checksum", sum);
+        named(out, b" checksum", sum)?;
     }
-    words(b"\n");
+    words(out, b"\n")
 }
 
-pub fn numbers(list: &[i64]) {
+pub fn numbers<W: Write>(out: &mut W, list: &[i64]) -> Result<()> {
     let mut sum = 0;
     for i in 0..list.len() {
-        sum = tell(list.len(), sum, list[i]);
+        sum = tell(out, list.len(), sum, list[i])?;
     }
-    end(list.len(), sum);
+    end(out, list.len(), sum)
 }
 
-pub fn bytes(list: &[u8]) {
+pub fn bytes<W: Write>(out: &mut W, list: &[u8]) -> Result<()> {
     let mut sum = 0;
     for i in 0..list.len() {
-        sum = tell(list.len(), sum, list[i] as i64);
+        sum = tell(out, list.len(), sum, list[i] as i64)?;
     }
-    end(list.len(), sum);
+    end(out, list.len(), sum)
 }
