@@ -11,8 +11,9 @@ ghost use Rattle.edge.specs.WalkOf.{IsWalk};
 ghost use Rattle.edge_vectors.specs.Ready.{Shows, PointInRange, HalfWidth, HasRoom, Ready};
 
 use edge::{Cell, Edge, Walk, area_in, comes_inside, details_in, walk_of};
-use libc::STDIN_FILENO;
-use vector_print::{decimal, number, words};
+use std::io;
+use std::io::Write;
+use vector_print::{INPUT_LIMIT, decimal, number, read_full, words};
 
 // 2^28: what a coordinate may be at most, and a width times an extent
 const LIMIT: i64 = 268435456;
@@ -69,34 +70,47 @@ fn checked(x0: i64, y0: i64, x1: i64, y1: i64, left: i64, top: i64, half: i64) -
 
 // ---- one edge and one cell
 
-fn show(x0: i64, y0: i64, x1: i64, y1: i64, left: i64, top: i64, half: i64) {
+fn show<W: Write>(
+    out: &mut W,
+    x0: i64,
+    y0: i64,
+    x1: i64,
+    y1: i64,
+    left: i64,
+    top: i64,
+    half: i64,
+) -> io::Result<()> {
     if checked(x0, y0, x1, y1, left, top, half) {
         let width = half + half;
-        print_case(walk_of(Edge { x0, y0, x1, y1 }), Cell { left, top, width });
+        print_case(
+            out,
+            walk_of(Edge { x0, y0, x1, y1 }),
+            Cell { left, top, width },
+        )
     } else {
-        words(b"out of range\n");
+        words(out, b"out of range\n")
     }
 }
 
-fn print_case(w: Walk, c: Cell)
+fn print_case<W: Write>(out: &mut W, w: Walk, c: Cell) -> io::Result<()>
     requires { IsWalk w × Room w.edge c }
 {
     let r = details_in(w, c);
-    decimal(r.h);
-    number(r.v);
-    number(r.d);
-    number(area_in(w, c));
+    decimal(out, r.h)?;
+    number(out, r.v)?;
+    number(out, r.d)?;
+    number(out, area_in(w, c))?;
     if comes_inside(w, c) {
-        words(b" in\n");
+        words(out, b" in\n")
     } else {
-        words(b" out\n");
+        words(out, b" out\n")
     }
 }
 
 // ---- the cases, from standard input
 
 // The last seven numbers that were read.
-#[derive(Drop)]
+#[derive(Clone, Copy)]
 struct Numbers {
     x0: i64,
     y0: i64,
@@ -108,7 +122,7 @@ struct Numbers {
 }
 
 // And the number that is being read, or a comment.
-#[derive(Drop)]
+#[derive(Clone, Copy)]
 struct Reader {
     numbers: Numbers,
     size: u64,
@@ -189,12 +203,12 @@ fn read_byte(r: Reader, b: u8) -> Reader {
     }
 }
 
-fn show_numbers(n: Numbers) {
-    show(n.x0, n.y0, n.x1, n.y1, n.left, n.top, n.half);
+fn show_numbers<W: Write>(out: &mut W, n: Numbers) -> io::Result<()> {
+    show(out, n.x0, n.y0, n.x1, n.y1, n.left, n.top, n.half)
 }
 
 // Every line that is no comment is taken to have seven numbers.
-fn show_all(text: &[u8]) {
+fn show_all<W: Write>(out: &mut W, text: &[u8]) -> io::Result<()> {
     let mut r = Reader {
         numbers: Numbers {
             x0: 0,
@@ -216,14 +230,15 @@ fn show_all(text: &[u8]) {
         r = read_byte(r, b);
         if b == b'\n' && !comment {
             let numbers = r.numbers;
-            show_numbers(numbers);
+            show_numbers(out, numbers)?;
         }
         i += 1;
     }
+    Ok(())
 }
 
-fn main() {
-    let mut buf = io::large_buffer();
-    let n = io::read_full(STDIN_FILENO, &mut buf);
-    show_all(&buf[..n]);
+fn main(rt: HostRuntime) -> io::Result<()> {
+    let mut buf = [0u8; INPUT_LIMIT];
+    let n = read_full(&mut rt.stdin(), &mut buf)?;
+    show_all(&mut rt.stdout(), &buf[..n])
 }
