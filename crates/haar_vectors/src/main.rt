@@ -6,15 +6,16 @@
 // `stdout` has what must be printed, as `answers` of rust/ makes it.
 #![tactic(auto)]
 
-use libc::STDIN_FILENO;
+use std::io;
+use vector_print::{INPUT_LIMIT, read_full};
 
 mod read;
 mod show;
 mod table;
 
-fn main() {
-    let mut buf = io::large_buffer();
-    let n = io::read_full(STDIN_FILENO, &mut buf);
+fn main(rt: HostRuntime) -> io::Result<()> {
+    let mut buf = [0u8; INPUT_LIMIT];
+    let n = read_full(&mut rt.stdin(), &mut buf)?;
     let mut table = table::blank();
-    read::read_all(&buf[..n], &mut table);
+    read::read_all(&mut rt.stdout(), &buf[..n], &mut table)
 }

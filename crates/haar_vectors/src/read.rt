@@ -3,11 +3,12 @@ ghost use Rattle.haar_vectors.specs.Entries.{Entries};
 
 use super::show::{refuse, show_cell, show_table};
 use super::table::{GREATEST_DEPTH, cells, clear, put};
+use std::io::{Result, Write};
 use vector_print::words;
 
 // The line that is being read: its kind, which is its first byte; whether its first word goes on; the number that is being read; the place of the
 // next entry, or how many numbers of a cell there were, and the last three of them. And the depth of the last table.
-#[derive(Drop)]
+#[derive(Clone, Copy)]
 struct Reader {
     kind: u8,
     word: bool,
@@ -140,9 +141,9 @@ fn end_position(mut r: Reader) -> Reader {
     r
 }
 
-fn print_byte(b: u8) {
+fn print_byte<W: Write>(out: &mut W, b: u8) -> Result<()> {
     let text = [b];
-    words(&text);
+    words(out, &text)
 }
 
 // A line of which no more than its kind is known.
@@ -161,54 +162,54 @@ fn line(kind: u8, depth: usize) -> Reader {
 }
 
 // The first byte of a line: of a comment, of the word before a cell, or of a table's name, where the entries of the last one go.
-fn begin_line(b: u8, depth: usize, table: &mut [i64]) -> Reader
+fn begin_line<W: Write>(out: &mut W, b: u8, depth: usize, table: &mut [i64]) -> Result<Reader>
     requires { Entries table.old }
     ensures { Entries table.new }
 {
     if b == b'#' {
-        return line(b, depth);
+        return Ok(line(b, depth));
     }
-    print_byte(b);
+    print_byte(out, b)?;
     if b == b'@' {
-        return line(b, depth);
+        return Ok(line(b, depth));
     }
     clear(table);
-    line(b, NONE)
+    Ok(line(b, NONE))
 }
 
 // What a line asks for: a cell, or all of the table; or that it is refused, as where there is no table.
-fn show(table: &[i64], r: Reader)
+fn show<W: Write>(out: &mut W, table: &[i64], r: Reader) -> Result<()>
     requires { Entries table.now }
 {
     let kind = r.kind;
     let depth = r.depth;
     if kind == WRONG {
-        return refuse();
+        return refuse(out);
     }
     if GREATEST_DEPTH < depth {
-        return refuse();
+        return refuse(out);
     }
     if kind != b'@' {
-        words(b"\n");
-        return show_table(table, depth);
+        words(out, b"\n")?;
+        return show_table(out, table, depth);
     }
     if r.next != CELL_NUMBERS {
-        return refuse();
+        return refuse(out);
     }
-    show_cell(table, depth, r.level, r.x, r.y);
+    show_cell(out, table, depth, r.level, r.x, r.y)
 }
 
-fn end_line(r: Reader, table: &mut [i64]) -> Reader
+fn end_line<W: Write>(out: &mut W, r: Reader, table: &mut [i64]) -> Result<Reader>
     requires { Entries table.old }
     ensures { Entries table.new }
 {
     let kind = r.kind;
     if kind == START || kind == b'#' {
-        return line(START, r.depth);
+        return Ok(line(START, r.depth));
     }
     let e = end_number(r, table);
-    show(table, e);
-    line(START, e.depth)
+    show(out, table, e)?;
+    Ok(line(START, e.depth))
 }
 
 // A byte after the first word.
@@ -231,36 +232,37 @@ fn read_item(mut r: Reader, b: u8, table: &mut [i64]) -> Reader
     r
 }
 
-fn read_byte(mut r: Reader, b: u8, table: &mut [i64]) -> Reader
+fn read_byte<W: Write>(out: &mut W, mut r: Reader, b: u8, table: &mut [i64]) -> Result<Reader>
     requires { Entries table.old }
     ensures { Entries table.new }
 {
     let kind = r.kind;
     if b == b'\n' {
-        return end_line(r, table);
+        return end_line(out, r, table);
     }
     if kind == START {
-        return begin_line(b, r.depth, table);
+        return begin_line(out, b, r.depth, table);
     }
     if kind == b'#' || kind == WRONG {
-        return r;
+        return Ok(r);
     }
     if !r.word {
-        return read_item(r, b, table);
+        return Ok(read_item(r, b, table));
     }
     if b == b' ' {
         r.word = false;
     } else {
-        print_byte(b);
+        print_byte(out, b)?;
     }
-    r
+    Ok(r)
 }
 
-pub fn read_all(text: &[u8], table: &mut [i64])
+pub fn read_all<W: Write>(out: &mut W, text: &[u8], table: &mut [i64]) -> Result<()>
     requires { Entries table.old }
 {
     let mut r = line(START, NONE);
     for i in 0..text.len() {
-        r = read_byte(r, text[i], table);
+        r = read_byte(out, r, text[i], table)?;
     }
+    Ok(())
 }

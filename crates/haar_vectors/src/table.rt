@@ -9,7 +9,7 @@ ghost use Rattle.haar_vectors.specs.Entries.{Entries};
 pub const GREATEST_DEPTH: usize = 6;
 
 // 4^6: the entries of the deepest table, and the cells of its deepest level.
-const MOST: usize = 4096;
+pub const MOST: usize = 4096;
 
 // 2^40: what an entry may be at most.
 const LIMIT: u64 = 1099511627776;
