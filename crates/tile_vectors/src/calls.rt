@@ -1,6 +1,7 @@
 // The calls: what each is given and what it answers.
 ghost use Rattle.std.specs.Prelude.{◌<◌, ◌≤◌};
 
+use std::io::{Result, Write};
 use tile::{build, cell, figures, greys};
 use vector_print::{bytes, named, number, numbers, words};
 
@@ -15,51 +16,76 @@ pub fn least(a: usize, b: usize) -> usize
     if a < b { a } else { b }
 }
 
-pub fn show_build(side: u32, points: &[i64], counts: &[u32], table: &mut [i64]) {
-    named(b"build side", side as u64);
-    named(b" contours", counts.len() as u64);
-    named(b" points", points.len() as u64);
-    named(b" entries", table.len() as u64);
+pub fn show_build<W: Write>(
+    out: &mut W,
+    side: u32,
+    points: &[i64],
+    counts: &[u32],
+    table: &mut [i64],
+) -> Result<()> {
+    named(out, b"build side", side as u64)?;
+    named(out, b" contours", counts.len() as u64)?;
+    named(out, b" points", points.len() as u64)?;
+    named(out, b" entries", table.len() as u64)?;
     let r = build(side, points, counts, table);
-    named(b":", r.number as u64);
-    named(b" edges", r.edges as u64);
-    words(b" table");
-    numbers(table);
+    named(out, b":", r.number as u64)?;
+    named(out, b" edges", r.edges as u64)?;
+    words(out, b" table")?;
+    numbers(out, table)
 }
 
 // What the other calls are given.
-fn given(name: &[u8], side: u32, level: u32, entries: usize) {
-    words(name);
-    named(b" side", side as u64);
-    named(b" level", level as u64);
-    named(b" entries", entries as u64);
+fn given<W: Write>(out: &mut W, name: &[u8], side: u32, level: u32, entries: usize) -> Result<()> {
+    words(out, name)?;
+    named(out, b" side", side as u64)?;
+    named(out, b" level", level as u64)?;
+    named(out, b" entries", entries as u64)
 }
 
-pub fn show_figures(side: u32, level: u32, table: &[i64], picture: &mut [i64]) {
-    given(b"figures", side, level, table.len());
-    named(b" places", picture.len() as u64);
-    named(b":", figures(side, level, table, picture) as u64);
-    words(b" picture");
-    numbers(picture);
+pub fn show_figures<W: Write>(
+    out: &mut W,
+    side: u32,
+    level: u32,
+    table: &[i64],
+    picture: &mut [i64],
+) -> Result<()> {
+    given(out, b"figures", side, level, table.len())?;
+    named(out, b" places", picture.len() as u64)?;
+    named(out, b":", figures(side, level, table, picture) as u64)?;
+    words(out, b" picture")?;
+    numbers(out, picture)
 }
 
-pub fn show_greys(side: u32, level: u32, table: &[i64], picture: &mut [u8]) {
-    given(b"greys", side, level, table.len());
-    named(b" places", picture.len() as u64);
-    named(b":", greys(side, level, table, picture) as u64);
-    words(b" picture");
-    bytes(picture);
+pub fn show_greys<W: Write>(
+    out: &mut W,
+    side: u32,
+    level: u32,
+    table: &[i64],
+    picture: &mut [u8],
+) -> Result<()> {
+    given(out, b"greys", side, level, table.len())?;
+    named(out, b" places", picture.len() as u64)?;
+    named(out, b":", greys(side, level, table, picture) as u64)?;
+    words(out, b" picture")?;
+    bytes(out, picture)
 }
 
-pub fn show_cell(side: u32, level: u32, cx: u32, cy: u32, table: &[i64]) {
-    given(b"cell", side, level, table.len());
-    named(b" at", cx as u64);
-    named(b"", cy as u64);
+pub fn show_cell<W: Write>(
+    out: &mut W,
+    side: u32,
+    level: u32,
+    cx: u32,
+    cy: u32,
+    table: &[i64],
+) -> Result<()> {
+    given(out, b"cell", side, level, table.len())?;
+    named(out, b" at", cx as u64)?;
+    named(out, b"", cy as u64)?;
     let r = cell(side, level, cx, cy, table);
-    named(b":", r.number as u64);
-    words(b" figure");
-    number(r.figure);
-    words(b"\n");
+    named(out, b":", r.number as u64)?;
+    words(out, b" figure")?;
+    number(out, r.figure)?;
+    words(out, b"\n")
 }
 
 // ---- all levels
@@ -106,31 +132,52 @@ fn same_cells(side: u32, level: u32, table: &[i64], picture: &[i64]) -> bool {
     true
 }
 
-fn draw_level(side: u32, level: u32, table: &[i64], picture: &mut [i64], shades: &mut [u8]) {
-    show_figures(side, level, table, picture);
-    show_greys(side, level, table, shades);
-    given(b"cells", side, level, table.len());
+fn draw_level<W: Write>(
+    out: &mut W,
+    side: u32,
+    level: u32,
+    table: &[i64],
+    picture: &mut [i64],
+    shades: &mut [u8],
+) -> Result<()> {
+    show_figures(out, side, level, table, picture)?;
+    show_greys(out, side, level, table, shades)?;
+    given(out, b"cells", side, level, table.len())?;
     if same_cells(side, level, table, picture) {
-        words(b": alone same\n");
+        words(out, b": alone same\n")
     } else {
-        words(b": alone differs\n");
+        words(out, b": alone differs\n")
     }
 }
 
 // A level, where the tile has it.
-fn show_level(side: u32, level: u32, table: &[i64], picture: &mut [i64], shades: &mut [u8]) {
+fn show_level<W: Write>(
+    out: &mut W,
+    side: u32,
+    level: u32,
+    table: &[i64],
+    picture: &mut [i64],
+    shades: &mut [u8],
+) -> Result<()> {
     let n = across(level);
     if side < n {
-        return;
+        return Ok(());
     }
     let cells = (n * n) as usize;
     let p = least(cells, picture.len());
     let s = least(cells, shades.len());
-    draw_level(side, level, table, &mut picture[..p], &mut shades[..s]);
+    draw_level(out, side, level, table, &mut picture[..p], &mut shades[..s])
 }
 
-pub fn show_all(side: u32, table: &[i64], picture: &mut [i64], shades: &mut [u8]) {
+pub fn show_all<W: Write>(
+    out: &mut W,
+    side: u32,
+    table: &[i64],
+    picture: &mut [i64],
+    shades: &mut [u8],
+) -> Result<()> {
     for level in 0..LEVELS {
-        show_level(side, level, table, picture, shades);
+        show_level(out, side, level, table, picture, shades)?;
     }
+    Ok(())
 }

@@ -14,7 +14,8 @@
 // `stdout` has what must be printed, as `answers` of rust/ makes it.
 #![tactic(auto)]
 
-use libc::STDIN_FILENO;
+use std::io;
+use vector_print::{INPUT_LIMIT, read_full};
 
 mod calls;
 mod read;
@@ -23,20 +24,21 @@ mod text;
 // Each list has room for more than a tile of side 64 takes.
 const ROOM: usize = 4100;
 
-fn main() {
-    let mut text = io::large_buffer();
-    let n = io::read_full(STDIN_FILENO, &mut text);
+fn main(rt: HostRuntime) -> io::Result<()> {
+    let mut text = [0u8; INPUT_LIMIT];
+    let n = read_full(&mut rt.stdin(), &mut text)?;
     let mut points = [0i64; ROOM];
     let mut counts = [0u32; ROOM];
     let mut table = [0i64; ROOM];
     let mut figures = [0i64; ROOM];
     let mut greys = [0u8; ROOM];
     read::read_all(
+        &mut rt.stdout(),
         &text[..n],
         &mut points,
         &mut counts,
         &mut table,
         &mut figures,
         &mut greys,
-    );
+    )
 }

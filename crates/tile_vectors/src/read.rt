@@ -2,10 +2,11 @@
 use super::ROOM;
 use super::calls::{least, show_all, show_build, show_cell, show_figures, show_greys};
 use super::text::{line_end, number_at, numbers_of, word, word_at};
+use std::io::{Result, Write};
 use vector_print::words;
 
 // What the next calls are given, and how much of each list: `size` of a picture.
-#[derive(Drop)]
+#[derive(Clone, Copy)]
 struct Given {
     side: u32,
     level: u32,
@@ -53,7 +54,8 @@ fn put_counts(counts: &mut [u32], numbers: &[i64]) -> usize {
 // ---- lines
 
 // One of the calls, or all levels.
-fn show(
+fn show<W: Write>(
+    out: &mut W,
     kind: u8,
     g: Given,
     cx: u32,
@@ -63,24 +65,24 @@ fn show(
     table: &mut [i64],
     figures: &mut [i64],
     greys: &mut [u8],
-) {
+) -> Result<()> {
     let n = least(g.entries, table.len());
     if kind == b'b' {
         let p = least(g.points, points.len());
         let c = least(g.counts, counts.len());
-        show_build(g.side, &points[..p], &counts[..c], &mut table[..n]);
+        show_build(out, g.side, &points[..p], &counts[..c], &mut table[..n])
     } else if kind == b'd' {
         let r = least(g.size, figures.len());
-        show_figures(g.side, g.level, &table[..n], &mut figures[..r]);
+        show_figures(out, g.side, g.level, &table[..n], &mut figures[..r])
     } else if kind == b'g' {
         let r = least(g.size, greys.len());
-        show_greys(g.side, g.level, &table[..n], &mut greys[..r]);
+        show_greys(out, g.side, g.level, &table[..n], &mut greys[..r])
     } else if kind == b'k' {
-        show_cell(g.side, g.level, cx, cy, &table[..n]);
+        show_cell(out, g.side, g.level, cx, cy, &table[..n])
     } else if kind == b'a' {
-        show_all(g.side, &table[..n], figures, greys);
+        show_all(out, g.side, &table[..n], figures, greys)
     } else {
-        words(b"refused\n");
+        words(out, b"refused\n")
     }
 }
 
@@ -91,7 +93,8 @@ fn fill_all(v: i64, table: &mut [i64], figures: &mut [i64], greys: &mut [u8]) {
 }
 
 // What a line says, but for that of the points.
-fn act(
+fn act<W: Write>(
+    out: &mut W,
     kind: u8,
     mut g: Given,
     numbers: &[i64],
@@ -100,7 +103,7 @@ fn act(
     table: &mut [i64],
     figures: &mut [i64],
     greys: &mut [u8],
-) -> Given {
+) -> Result<Given> {
     if kind == b's' {
         g.side = word_at(numbers, 0);
     } else if kind == b'l' {
@@ -117,6 +120,7 @@ fn act(
         fill_all(number_at(numbers, 0), table, figures, greys);
     } else {
         show(
+            out,
             kind,
             g,
             word_at(numbers, 0),
@@ -126,12 +130,13 @@ fn act(
             table,
             figures,
             greys,
-        );
+        )?;
     }
-    g
+    Ok(g)
 }
 
-fn read_line(
+fn read_line<W: Write>(
+    out: &mut W,
     line: &[u8],
     mut g: Given,
     points: &mut [i64],
@@ -139,21 +144,22 @@ fn read_line(
     table: &mut [i64],
     figures: &mut [i64],
     greys: &mut [u8],
-) -> Given {
+) -> Result<Given> {
     if line.len() == 0 {
-        return g;
+        return Ok(g);
     }
     let kind = line[0];
     if kind == b'#' {
-        return g;
+        return Ok(g);
     }
     if kind == b'p' {
         g.points = numbers_of(line, points);
-        return g;
+        return Ok(g);
     }
     let mut numbers = [0i64; ROOM];
     let n = numbers_of(line, &mut numbers);
     act(
+        out,
         kind,
         g,
         &numbers[..n],
@@ -165,14 +171,15 @@ fn read_line(
     )
 }
 
-pub fn read_all(
+pub fn read_all<W: Write>(
+    out: &mut W,
     text: &[u8],
     points: &mut [i64],
     counts: &mut [u32],
     table: &mut [i64],
     figures: &mut [i64],
     greys: &mut [u8],
-) {
+) -> Result<()> {
     let mut g = Given {
         side: 0,
         level: 0,
@@ -184,7 +191,17 @@ pub fn read_all(
     let mut from = 0;
     while from < text.len() {
         let to = line_end(text, from);
-        g = read_line(&text[from..to], g, points, counts, table, figures, greys);
+        g = read_line(
+            out,
+            &text[from..to],
+            g,
+            points,
+            counts,
+            table,
+            figures,
+            greys,
+        )?;
         from = to + 1;
     }
+    Ok(())
 }
