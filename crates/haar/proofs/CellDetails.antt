@@ -1,11 +1,11 @@
 -- A cell's details as the code reads them, and the figures of two children that lie side by side.
 --
 -- Main results
---   CellDetails, cell_details_lem          the three entries of a cell are in the table
---   detail_is                          and are its details
---   half_row                           the row of the cell
---   parent_within, scale_within        how large its figure and its scale are
---   pair_is                            the two figures
+--   CellDetails, cell_details_lem        the three entries of a cell are in the table
+--   detail_is                            and are its details
+--   half_row                             the row of the cell
+--   parent_within, scale_within          how large its figure and its scale are
+--   pair_is                              the two figures
 use mathlib.Core.Path.{◌≡◌, refl, sym, ◌∙◌, ap, ap₂}
 use mathlib.Core.List.{List, [], ◌∷◌}
 use Prim.Native.Nat.{ℕ, suc, ◌+◌, ◌*◌, ◌-◌, ◌/◌, ◌%◌, ◌^◌, ◌<◌, ◌≤◌}

@@ -4,9 +4,9 @@
 --   children n, details n        how many children and how many details a cell has
 --   Cell n                       a cell of a level, by its number in each direction, x first
 --   Below n m cell               each of its numbers is below m
---   row_major n m cell            its place among them, row by row
---   cell_at n m i                 the cell at place i
---   parent, child_number          the cell that a cell lies in, and which of its children it is
+--   row_major n m cell           its place among them, row by row
+--   cell_at n m i                the cell at place i
+--   parent, child_number         the cell that a cell lies in, and which of its children it is
 --   child n cell c               child c of a cell
 use Rattle.std.specs.Prelude.{ℕ, zero, suc, ◌+◌, ◌*◌, ◌-◌, ◌/◌, ◌%◌, ◌^◌, ◌<◌}
 

@@ -2,7 +2,7 @@
 --
 -- Definitions
 --   level_details n t j           the details of the cells of level j, one after the other
---   entries n depth t            the entries of t down to a depth, in the order of `index`
+--   entries n depth t             the entries of t down to a depth, in the order of `index`
 use Rattle.std.specs.Prelude.{List, [], ◌∷◌, ◌++◌, ℕ, zero, suc, ◌*◌, ◌/◌, ◌%◌, ◌^◌, ℤ}
 use Rattle.haar.specs.Cells.{children, details, cell_at}
 use Rattle.haar.specs.Table.{Coefficients}

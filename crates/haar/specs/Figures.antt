@@ -2,7 +2,7 @@
 -- `Laws/Areas` has that it is 4^L times the area, where the details are differences of areas.
 --
 -- Definitions
---   signed_details n w c          a cell's details w with their signs at child c, added up
+--   signed_details n w c         a cell's details w with their signs at child c, added up
 --   figure n t level cell        the figure of a cell of a level
 use Rattle.std.specs.Prelude.{ℕ, zero, suc, ◌^◌, ℤ, pos, ◌+ℤ◌, ◌*ℤ◌}
 use Rattle.integers.specs.RangeSum.{Σ<}

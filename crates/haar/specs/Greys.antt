@@ -2,12 +2,12 @@
 -- be traced either way round (02, P4).
 --
 -- Definitions
---   full side                    the figure of a cell that is all ink: as large at every level
+--   full side                     the figure of a cell that is all ink: as large at every level
 --   ink_grey side num den         01's rule: the grey of an amount of ink, num / den in a figure's place, on a tile of side × side pixels
---   grey side num den            the grey of num / den: by that rule, of its magnitude
+--   grey side num den             the grey of num / den: by that rule, of its magnitude
 --   grey_of side f                the grey of the figure f
---   OneApart a b                 two greys that are at most one apart
---   SameGrey f most n            n is at most the full figure `most`, and has the grey of the figure f
+--   OneApart a b                  two greys that are at most one apart
+--   SameGrey f most n             n is at most the full figure `most`, and has the grey of the figure f
 -- Checks
 --   half_pixel, half_pixel_below half a pixel's ink has the grey 128, either way round
 --   full_pixel_below             a pixel's ink below zero has the full grey

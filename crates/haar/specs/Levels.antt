@@ -1,7 +1,7 @@
 -- A level drawn from the figures of the one above, two rows for each row of parents: what the contracts of the functions that draw it cite.
 --
 -- Definitions
---   put_pair a b i l                           a list with a and b in places i and i + 1
+--   put_pair a b i l                          a list with a and b in places i and i + 1
 --   HasFigures entries level l                a list begins with the figures of a level, row by row
 --   DrawableBelow entries level room          a level whose cells have children, with room for these
 --   RowParents entries level y l              the figures of row y of such a level stand in their places in a list

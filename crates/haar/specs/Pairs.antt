@@ -1,9 +1,9 @@
 -- Two children of a cell that lie side by side: what the contracts of the functions that work them out cite.
 --
 -- Definitions
---   Refinable entries level x cy f            a cell, two of whose children are wanted, and its figure
+--   Refinable entries level x cy f              a cell, two of whose children are wanted, and its figure
 --   scale_limit, parent_limit, PairBounds       how large the numbers are that these are worked out from
---   pair_of, IsPair                            the two, by those numbers and by their figures
+--   pair_of, IsPair                             the two, by those numbers and by their figures
 use Rattle.std.specs.Prelude.{◌≡◌, List, ℕ, suc, ◌+◌, ◌*◌, ◌-◌, ◌/◌, ◌^◌, ◌<◌, ℤ, pos, ◌+ℤ◌, ◌-ℤ◌, ◌*ℤ◌}
 use Rattle.integers.specs.Units.{greatest_depth, entry_limit}
 use Rattle.integers.specs.Within.{Within}

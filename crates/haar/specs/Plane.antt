@@ -1,12 +1,12 @@
 -- The tile: two directions, so four children and three details.
 --
 -- Definitions
---   dimensions                   x and y
+--   dimensions                      x and y
 --   h_detail, v_detail, d_detail    the numbers of h, v and d
---   quarter_details w a b         ± h ± v ± d, of a cell's details w, with the signs of quarter (a, b)
---   at cx cy                     cell (cx, cy)
---   figure_at t level cx cy       its figure
---   figure_in, picture_in          figures and pictures from a list of entries
+--   quarter_details w a b           ± h ± v ± d, of a cell's details w, with the signs of quarter (a, b)
+--   at cx cy                        cell (cx, cy)
+--   figure_at t level cx cy         its figure
+--   figure_in, picture_in           figures and pictures from a list of entries
 use Rattle.std.specs.Prelude.{List, ℕ, ℤ, ◌+ℤ◌, ◌*ℤ◌}
 use Rattle.integers.specs.HalfSign.{half_sign}
 use Rattle.haar.specs.Cells.{Cell}

@@ -34,7 +34,6 @@ offset_bounds-table-first-3 c = let p = cell_details_lem c.requires c.first_deta
 pub bounds-table-first-3 : goal.bounds-table-first-3
 bounds-table-first-3 c = let p = cell_details_lem c.requires c.first_detail-first.ensures in omega arith
 
--- each detail, as it is read
 pub beside-requires : goal.beside-requires
 beside-requires c =
     let entry = c.requires.drawable.in_range_lem.each in

@@ -45,7 +45,9 @@ pub slice_bounds-greys_below-count : goal.slice_bounds-greys_below-count
 slice_bounds-greys_below-count c = omega (arith, size c.places_to-start.ensures c.places_to-end.ensures c.loop-level-test.true)
 
 pub slice_bounds-greys_below-start : goal.slice_bounds-greys_below-start
-slice_bounds-greys_below-start c = let e = size c.places_to-start.ensures c.places_to-end.ensures c.loop-level-test.true in let k : c.places_to-start.result ≤ c.places_to-end.result = omega arith in k
+slice_bounds-greys_below-start c =
+    let k : c.places_to-start.result ≤ c.places_to-end.result = omega (arith, size c.places_to-start.ensures c.places_to-end.ensures c.loop-level-test.true) in
+    k
 
 pub slice_bounds-greys_below-end : goal.slice_bounds-greys_below-end
 slice_bounds-greys_below-end c =

@@ -4,7 +4,7 @@
 --   Σcells n m f                 the sum of f over all cells below m in each direction
 --   Σcells_scale                 a factor comes out
 --   Σcells_one                   where there is one cell, a constant adds up to itself
---   Σ-cell_at                     the same sum, place by place
+--   Σ-cell_at                    the same sum, place by place
 --   cells_by_children            with twice as many cells in each direction, the same sum by children of the cells
 use Rattle.std.specs.Prelude.{◌≡◌, refl, ℕ, zero, suc, ◌+◌, ◌*◌, ◌/◌, ◌%◌, ◌^◌, ◌<◌, ℤ, pos, ◌+ℤ◌, ◌*ℤ◌}
 use Rattle.std.proofs.Common.{sym, ◌∙◌, ap, ap₂, arith, mul_comm}

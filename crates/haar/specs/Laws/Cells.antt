@@ -3,10 +3,10 @@
 -- Main results
 --   parent-child, child_number-child, child-parent        a child's parent and number are those it was made from, and every cell is a child
 --   child_number-lt, below-parent                         a cell of a level is one of `children n` children of a cell one level up
---   row_major-lt, below-cell_at                            a cell's place is one of the level's, and a place's cell one of its cells
---   cell_at-row_major, row_major-cell_at                     each cell has one place, and each place one cell
---   level_cells, level_square                            how many cells a level has: 2^level in each direction
---   next_level                                           the next level has as many cells as this one has cells and details
+--   row_major-lt, below-cell_at                           a cell's place is one of the level's, and a place's cell one of its cells
+--   cell_at-row_major, row_major-cell_at                  each cell has one place, and each place one cell
+--   level_cells, level_square                             how many cells a level has: 2^level in each direction
+--   next_level                                            the next level has as many cells as this one has cells and details
 use Rattle.std.specs.Prelude.{◌≡◌, refl, ℕ, zero, suc, ◌+◌, ◌*◌, ◌/◌, ◌%◌, ◌^◌, ◌<◌}
 use Rattle.std.proofs.Common.{sym, ◌∙◌, ap, ap₂, arith, mod-eq_of_lt, mod-lt, add-zero, div-add-mod', div-lt_iff_lt-mul, mul-le-mul_right, pow-suc}
 use Rattle.std.proofs.Math.Nat.{pow-succ', mul-add-div_right, mul-add-mod_self_right, div-eq_of_lt, pow-zero, mul-mul-mul_comm}

@@ -1,8 +1,8 @@
 -- Question 9 keeps figures in 64 bits: of a table whose entries are within 2^40, no figure passes 2^52, either way.
 --
 -- Main results
---   figure_in_range              at a level, none passes 2^40 times the number of its cells
---   figure_limit_lem                 and so none passes 2^52
+--   figure_in_range               at a level, none passes 2^40 times the number of its cells
+--   figure_limit_lem              and so none passes 2^52
 use Rattle.std.specs.Prelude.{◌≡◌, refl, List, ℕ, ◌*◌, ◌^◌, ◌<◌, ◌≤◌, ℤ, pos}
 use Rattle.std.proofs.Common.{ap, arith, mul-le-mul_right}
 use Rattle.std.proofs.Math.Nat.{pow-le-pow_right}

@@ -1,14 +1,14 @@
 -- The layout of a table, in any number of dimensions: every entry but the root belongs to exactly one detail of one cell.
 --
 -- Main results
---   IsDetail                     detail e of a cell of level j exists
---   index_low, index-pos         a level's details stand from `children n ^ j` on, and none at 0, the root's index
---   index_high, index_within     they stand before those of the next level, and so within a table of any greater depth
+--   IsDetail                       detail e of a cell of level j exists
+--   index_low, index-pos           a level's details stand from `children n ^ j` on, and none at 0, the root's index
+--   index_high, index_within       they stand before those of the next level, and so within a table of any greater depth
 --   cell_of, number_of             the cell and the number of the detail at an index, of a level that is known
 --   cell_of-index, number_of-index at a detail's own index they are its own
---   SameDetail, index_injective  details with one index are one and the same
---   DetailAt, index-onto         every index of a table but the root's has a detail
---   index_plane                  the indices on the tile
+--   SameDetail, index_injective    details with one index are one and the same
+--   DetailAt, index-onto           every index of a table but the root's has a detail
+--   index_plane                    the indices on the tile
 use Rattle.std.specs.Prelude.{◌≡◌, ℕ, zero, suc, ◌+◌, ◌*◌, ◌-◌, ◌/◌, ◌%◌, ◌^◌, ◌<◌, ◌≤◌}
 use Rattle.std.proofs.Common.{sym, ◌∙◌, ap, ap₂, arith, mul-le-mul_right, mod-lt, div-lt_iff_lt-mul, lt_of_not-le, pow_pos}
 use Rattle.std.proofs.Math.Decide.{dec_lt}

@@ -2,11 +2,11 @@
 -- d plus in the upper left and lower right".
 --
 -- Main results
---   figure-top                   the whole tile's figure is the root
---   parent_at                    the cell that cell (cx, cy) is a quarter of
+--   figure-top                    the whole tile's figure is the root
+--   parent_at                     the cell that cell (cx, cy) is a quarter of
 --   signed_details-quarter        ± h ± v ± d: a cell's details with their signs at a quarter
 --   quarter_figure                a quarter's figure from its cell's
---   figure-quarter               every figure but the root's is such
+--   figure-quarter                every figure but the root's is such
 use Rattle.std.specs.Prelude.{◌≡◌, refl, [], ◌∷◌, ℕ, suc, ◌*◌, ◌/◌, ◌%◌, ◌^◌, ◌<◌, ℤ, pos, ◌+ℤ◌, ◌*ℤ◌}
 use Rattle.std.proofs.Common.{◌∙◌, ap, ap₂, arith}
 use Rattle.std.proofs.Math.Nat.{mod-mod}
