@@ -7,7 +7,7 @@
 --   climb_details, climb_small, climb_first    the details that are added are small, and have their places in the table
 use mathlib.Core.Path.{◌≡◌, refl, sym, ◌∙◌, ap, ap₂, subst, subst⁻¹}
 use mathlib.Core.List.{List, [], ◌∷◌}
-use Prim.Native.Nat.{ℕ, zero, suc, ◌+◌, ◌*◌, ◌-◌, ◌/◌, ◌%◌, ◌^◌, ◌<◌, ◌≤◌}
+use Prim.Native.Nat.{ℕ, suc, ◌+◌, ◌*◌, ◌-◌, ◌/◌, ◌%◌, ◌^◌, ◌<◌, ◌≤◌}
 use native.Mathlib.Omega.{arith}
 use native.Mathlib.Nat.{pow-suc}
 use lib.Pow.{pow_mono}
@@ -21,7 +21,7 @@ use Rattle.integers.specs.Within.{Within, within_le, within_self}
 use Rattle.edge.specs.declared.Edge.{Edge}
 use Rattle.edge.specs.declared.Details.{Details}
 use Rattle.edge.specs.Nested.{OnCell}
-use Rattle.edge.specs.Rounded.{details, DetailsWithin}
+use Rattle.edge.specs.Rounded.{details}
 use Rattle.haar.specs.Cells.{children}
 use Rattle.haar.specs.Table.{index}
 use Rattle.haar.specs.Plane.{dimensions, h_detail, d_detail, at}
@@ -35,9 +35,9 @@ use Rattle.rasterize.specs.Ready.{SmallDetails, Spare}
 use Rattle.rasterize.specs.Laws.Adding.{added-length, added-both, added_none}
 use Rattle.rasterize.specs.Laws.Contributions.{own_within}
 use Rattle.rasterize.specs.Laws.Spare.{spare_le, spare_added}
-use Rattle.contours.specs.Runs.{run_levels, widest_run, longest_run, triangle_limit, square_at, with_area, details_in, part_in, above, AboveReady}
+use Rattle.contours.specs.Runs.{run_levels, widest_run, longest_run, triangle_limit, square_at, with_area, details_in, above, AboveReady}
 use Rattle.contours.specs.Laws.Runs.{parent_on, details-parent, above_zero, above-suc}
-use Rattle.contours.specs.Laws.RunBounds.{narrow_cell, part_small}
+use Rattle.contours.specs.Laws.RunBounds.{part_small}
 use Rattle.contours.specs.Laws.RunCells.{run-square, run_width}
 
 pub record Climb (e : Edge) (a : ℤ) (depth : ℕ) (c : Spot) (before : List ℤ) (level x y : ℕ) (w : ℤ) (table : List ℤ) : Type 0 where

@@ -10,14 +10,12 @@ use mathlib.Core.Bool.{true, cond}
 use mathlib.Core.List.{List, [], ◌∷◌}
 use Prim.Native.Nat.{ℕ, zero, suc, ◌+◌, ◌*◌, ◌-◌, ◌/◌, ◌^◌, ◌<◌, ◌≤◌}
 use native.Mathlib.Omega.{arith}
-use lib.Dec.{ltb}
 use lib.ListN.{length}
 use lib.IntN.{ℤ, pos, negsuc, ◌+ℤ◌, ◌-ℤ◌}
 use borrow.Author.Tests.{lt-ltb}
 use Rattle.integers.specs.Units.{greatest_depth, detail_limit}
 use Rattle.integers.specs.Ring.{read, ring, comb, ◌⊕◌, ◌⊗◌}
-use Rattle.integers.specs.Order.{pos-≤ℤ}
-use Rattle.integers.specs.Within.{Within, within_is, within_le, within_zero, within_add}
+use Rattle.integers.specs.Within.{Within, within_is, within_zero, within_add}
 use Rattle.integers.specs.RangeSum.{Σ<, Σ-zero, Σ-suc}
 use Rattle.edge.specs.declared.Edge.{Edge}
 use Rattle.edge.specs.Room.{Measured}
@@ -32,7 +30,7 @@ use Rattle.rasterize.specs.declared.View.TheVariants.{Alone}
 use Rattle.rasterize.specs.Added.{added, at_root, entry_of}
 use Rattle.rasterize.specs.Nodes.{node_at}
 use Rattle.rasterize.specs.Contribution.{contribution}
-use Rattle.rasterize.specs.Ready.{visits, Spare, OnSheet, ReadyIn, Fits}
+use Rattle.rasterize.specs.Ready.{visits, Spare, OnSheet, ReadyIn}
 use Rattle.rasterize.specs.Views.{part_table, InView}
 use Rattle.rasterize.specs.Laws.Adding.{added-length, added_same, added-added, added-both, added_none}
 use Rattle.rasterize.specs.Laws.Spare.{spare_le, spare_added}
@@ -40,12 +38,12 @@ use Rattle.rasterize.specs.Laws.Contributions.{contribution_within}
 use Rattle.rasterize.specs.Laws.EdgeAdded.{measured_in, edge_entry_lem}
 use Rattle.rasterize.specs.Laws.TurnedEdges.{seen_in_view}
 use Rattle.contours.specs.declared.Run.{Run}
-use Rattle.contours.specs.Contour.{next, edge_of, edge_entry, edges_from}
-use Rattle.contours.specs.Runs.{run_levels, widest_run, longest_run, triangle_limit, run_square, run_node, triangle, above, RunReady, reached, chord_of, Along}
+use Rattle.contours.specs.Contour.{edge_of, edge_entry, edges_from}
+use Rattle.contours.specs.Runs.{run_levels, widest_run, longest_run, triangle_limit, run_square, run_node, triangle, above, RunReady, chord_of, Along}
 use Rattle.contours.specs.Laws.ContourEdges.{edge_of-has}
 use Rattle.contours.specs.Laws.RunDetails.{on_cell_join}
 use Rattle.contours.specs.Laws.Runs.{above_none}
-use Rattle.contours.specs.Laws.RunsAdded.{cell_on_sheet_lem, on_sheet_at, contribution-join}
+use Rattle.contours.specs.Laws.RunsAdded.{on_sheet_at, contribution-join}
 use Rattle.contours.specs.Laws.RunBounds.{triangle_small}
 use Rattle.contours.specs.Laws.RunCells.{run_width, run-square}
 

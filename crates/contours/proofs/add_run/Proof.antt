@@ -1,15 +1,15 @@
 -- The run's edges in its cell and below, and its chord and area above.
-use mathlib.Core.Path.{◌≡◌, refl, sym, ◌∙◌, ap, ap₂, subst, subst⁻¹}
+use mathlib.Core.Path.{◌≡◌, sym, ◌∙◌, ap, ap₂, subst⁻¹}
 use mathlib.Core.List.{List}
-use Prim.Native.Nat.{ℕ, ◌+◌, ◌*◌, ◌-◌, ◌/◌, ◌<◌, ◌≤◌}
+use Prim.Native.Nat.{◌*◌, ◌-◌, ◌/◌, ◌≤◌}
 use native.Mathlib.Omega.{arith}
 use lib.ListN.{length}
-use lib.IntN.{ℤ, pos, ◌-ℤ◌}
-use Rattle.integers.specs.Units.{greatest_depth, greatest_coordinate, detail_limit}
+use lib.IntN.{ℤ, ◌-ℤ◌}
+use Rattle.integers.specs.Units.{greatest_coordinate, detail_limit}
 use Rattle.integers.specs.Order.{pos-≤ℤ}
-use Rattle.integers.specs.Within.{Within, within_is, within_le}
-use Rattle.integers.specs.Bits.{back, back_is, fits_within, result_is}
-use Rattle.integers.specs.Held.{Held, held_number, held_fits, held_back, held_within}
+use Rattle.integers.specs.Within.{within_le}
+use Rattle.integers.specs.Bits.{back, back_is, result_is}
+use Rattle.integers.specs.Held.{Held, held_fits, held_back, held_within}
 use Rattle.edge.specs.declared.Edge.{Edge}
 use Rattle.edge.specs.Room.{coordinate_limit, Measured}
 use Rattle.edge.specs.Rounded.{root_term}
@@ -22,7 +22,7 @@ use Rattle.rasterize.specs.Laws.Adding.{added-length}
 use Rattle.rasterize.specs.Laws.Spare.{spare_le}
 use Rattle.contours.specs.declared.Run.{Run}
 use Rattle.contours.specs.Contour.{edge_of}
-use Rattle.contours.specs.Runs.{longest_run, triangle_limit, run_square, above, AboveReady, RunReady, chord_of, Along}
+use Rattle.contours.specs.Runs.{longest_run, triangle_limit, run_square, above, RunReady, chord_of, Along}
 use Rattle.contours.specs.Laws.RunCells.{SmallEdge, on_cell_small}
 use Rattle.contours.proofs.RunLoop.{along_long}
 use Rattle.contours.proofs.add_run.Statement.{statement}
@@ -38,21 +38,21 @@ module _ (s : tie.Start) where
   points = placed s.args.placement s.args.points.now
 
   count : s.args.n ≡ length points / 2
-  count = s.pre.1 ∙ ap (λ m. m / 2) (sym (placed-length s.args.placement s.args.points.now))
+  count = s.requires.1 ∙ ap (λ m. m / 2) (sym (placed-length s.args.placement s.args.points.now))
 
   ready : RunReady s.args.table.now points s.args.depth s.args.k s.args.c
-  ready = s.pre.0
+  ready = s.requires.0
 
 -- ---- when the run's edges are added in its cell
-module _ (a : tie.After-add-along) where
+module _ (a : tie.After-add_along-r) where
   abbrev s : tie.Start
   s = a.before.before
 
   abbrev r : Run
-  r = a.add-along.result
+  r = a.add_along-r.result
 
-  along : Along s.args.depth (points s) s.args.k s.args.c s.args.table.now a.add-along.last.0 r
-  along = a.add-along.ensures.0
+  along : Along s.args.depth (points s) s.args.k s.args.c s.args.table.now a.add_along-r.new.table r
+  along = a.add_along-r.ensures.0
 
   few : r.next - s.args.k ≤ longest_run
   few = omega (arith, along.short)
@@ -73,7 +73,7 @@ module _ (a : tie.After-add-along) where
   }
 
   first-is : s.args.first ≡ edge_of (points s) s.args.n s.args.k
-  first-is = s.pre.3
+  first-is = s.requires.3
 
   chord-is : built ≡ chord
   chord-is =
@@ -85,17 +85,17 @@ module _ (a : tie.After-add-along) where
       record { x0 = within_le m small.x0; y0 = within_le m small.y0; x1 = within_le m small.x1; y1 = within_le m small.y1 })
 
 -- the area
-module _ (c : tie.After-root-term) where
-  abbrev a : tie.After-add-along
+module _ (c : tie.After-root_term) where
+  abbrev a : tie.After-add_along-r
   a = c.before.before.before.before
 
-  area : Held (longest_run * triangle_limit) (back (r a).sum -ℤ back c.root-term.result) ((r a).sum -ℤ root_term (chord a))
+  area : Held (longest_run * triangle_limit) (back (r a).sum -ℤ back c.root_term.result) ((r a).sum -ℤ root_term (chord a))
   area = record {
-    is = ap₂ ◌-ℤ◌ (back_is {b = longest_run * detail_limit} tt (within_le (pos-≤ℤ (omega (arith, few a))) (along a).sums)) (result_is c.root-term.type-inv (c.root-term.ensures ∙ ap root_term (chord-is a)));
+    is = ap₂ ◌-ℤ◌ (back_is {b = longest_run * detail_limit} tt (within_le (pos-≤ℤ (omega (arith, few a))) (along a).sums)) (result_is c.root_term.type_inv (c.root_term.ensures ∙ ap root_term (chord-is a)));
     within = within_le (pos-≤ℤ (omega (arith, few a))) (along a).small;
   }
 
-add-above-requires : tie.Need-add-above-requires
+add-above-requires : tie.Need-add_above-requires
 unfolding visits
 add-above-requires c κs =
     let t = c.before.before.before in
@@ -113,26 +113,26 @@ add-above-requires c κs =
     }
 
 -- ---- when it has its chord and its area too
-module _ (c : tie.After-table2) where
-  abbrev t : tie.After-root-term
+module _ (c : tie.After-table-2-1) where
+  abbrev t : tie.After-root_term
   t = c.before.before.before.before.before
 
   abbrev z : tie.Start
   z = s (a t)
 
-  whole : c.before.add-above.new.0 ≡ added (a t).add-along.last.0 (above (chord (a t)) ((r (a t)).sum -ℤ root_term (chord (a t))) z.args.depth z.args.c.level z.args.c.x z.args.c.y)
-  whole = c.before.add-above.ensures ∙ ap₂ (λ e m. added (a t).add-along.last.0 (above e m z.args.depth z.args.c.level z.args.c.x z.args.c.y)) (chord-is (a t)) (held_back tt (area t)).is
+  whole : c.before.add_above.new.table ≡ added (a t).add_along-r.new.table (above (chord (a t)) ((r (a t)).sum -ℤ root_term (chord (a t))) z.args.depth z.args.c.level z.args.c.x z.args.c.y)
+  whole = c.before.add_above.ensures ∙ ap₂ (λ e m. added (a t).add_along-r.new.table (above e m z.args.depth z.args.c.level z.args.c.x z.args.c.y)) (chord-is (a t)) (held_back tt (area t)).is
 
 returns : tie.Need-returns
-returns c = let b = a (t c) in (b.add-along.ensures.1, omega (arith, (along b).to, count (s b)), whole c ∙ (along b).rest)
+returns c = let b = a (t c) in (b.add_along-r.ensures.1, omega (arith, (along b).to, count (s b)), whole c ∙ (along b).rest)
 
-pub add-run-spec : {M : Type 1} → statement M
-add-run-spec =
+pub add_run_spec : {M : Type 1} → statement M
+add_run_spec =
     tie.close
     (tie.spec
     (λ c κs. c.before.requires)
     (λ c κs. chord-measured c.before.before.before)
     (λ c. held_fits tt (area c.before.before))
     add-above-requires
-    (λ c. ap length (whole c) ∙ added-length (a (t c)).add-along.last.0 _ ∙ along_long (ready (z c)) (along (a (t c))))
+    (λ c. ap length (whole c) ∙ added-length (a (t c)).add_along-r.new.table _ ∙ along_long (ready (z c)) (along (a (t c))))
     returns)

@@ -5,8 +5,8 @@ use borrow.Author.Rules.{rules}
 use Rattle.contours.proofs.cell_from.Statement.{statement}
 use Rattle.contours.proofs.cell_from.Tie as tie
 
-pub cell-from-spec : {M : Type 1} → statement M
-cell-from-spec =
+pub cell_from_spec : {M : Type 1} → statement M
+cell_from_spec =
     tie.close
     (tie.spec
     (λ c κs. tt)

@@ -1,23 +1,21 @@
 -- The details of the chord, and the area with its signs.
-use mathlib.Core.Path.{◌≡◌, refl, sym, ◌∙◌, ap, ap₂}
+use mathlib.Core.Path.{◌≡◌, ◌∙◌, ap, ap₂}
 use mathlib.Core.List.{[], ◌∷◌}
 use Prim.Native.Nat.{ℕ, zero, suc, ◌+◌, ◌*◌, ◌^◌, ◌<◌, ◌≤◌}
 use native.Mathlib.Omega.{arith}
-use lib.IntN.{ℤ, pos, neg_ℤ, ◌+ℤ◌, ◌-ℤ◌, ◌*ℤ◌}
+use lib.IntN.{ℤ, pos, ◌+ℤ◌, ◌-ℤ◌, ◌*ℤ◌}
 use lib.Signed.{mag}
-use borrow.Author.Rules.{rules}
 use Rattle.integers.specs.Units.{greatest_side, greatest_coordinate}
 use Rattle.integers.specs.HalfSign.{half_sign, half_sign_cases}
 use Rattle.integers.specs.Order.{pos-≤ℤ, nonneg}
 use Rattle.integers.specs.Ring.{read, ring}
-use Rattle.integers.specs.Within.{Within, within_is, within_le, within_self, within_add, within_sub, within_mul, within_sign}
+use Rattle.integers.specs.Within.{Within, within_le, within_self, within_add, within_sub, within_mul, within_sign}
 use Rattle.integers.specs.Bits.{back, back_is, within_back, fits_within, result_is}
 use Rattle.integers.specs.Held.{Held, held_number, held-add, held_sub, held-mul, held_fits, held_back, held_within}
-use Rattle.edge.specs.declared.Details.{Details}
 use Rattle.edge.specs.Walk.{dx, dy}
 use Rattle.edge.specs.Code.{turned}
 use Rattle.edge.specs.Lemmas.Records.{details-eq}
-use Rattle.contours.specs.Runs.{longest_run, triangle_limit, from_half, with_area, details_in, square_at}
+use Rattle.contours.specs.Runs.{longest_run, triangle_limit, from_half}
 use Rattle.contours.proofs.details_above.Statement.{statement}
 use Rattle.contours.proofs.details_above.Tie as tie
 
@@ -44,76 +42,76 @@ module _ (s : tie.Start) where
   again i = within_back (fits_within tt i) i
 
   w-is : back s.args.w ≡ s.args.w
-  w-is = back_is tt s.pre.4
+  w-is = back_is tt s.requires.4
 
   -- what `from_side` answers
   far : {r p q : ℤ} (n i : ℕ) → n < greatest_side → Within (pos greatest_coordinate) p → Within (pos greatest_coordinate) q → mag r < 2 ^ 63
       → r ≡ from_half i (pos n *ℤ back s.args.w) (back s.args.w) (back p) (back q) → Held far_limit (back r) (from_half i (pos n *ℤ s.args.w) s.args.w p q)
   far {r} {p} {q} n i h j k l e = record {
     is = result_is l (e ∙ ap (λ z. from_half i (pos n *ℤ z) z (back p) (back q)) w-is ∙ ap₂ (from_half i (pos n *ℤ s.args.w) s.args.w) (back_is tt j) (back_is tt k));
-    within = far_within i h s.pre.4 j k;
+    within = far_within i h s.requires.4 j k;
   }
 
   run : {p q : ℤ} → Within (pos greatest_coordinate) p → Within (pos greatest_coordinate) q → Held (greatest_coordinate + greatest_coordinate) (back q -ℤ back p) (q -ℤ p)
   run i j = held_sub (held_number tt j) (held_number tt i)
 
   area : Held areaLimit (back s.args.area) s.args.area
-  area = held_number tt s.pre.1
+  area = held_number tt s.requires.1
 
   area-asked : (i : ℕ) → i < 2 → Within (pos (2 ^ 40)) (back s.args.area) × (i < 2)
   area-asked i h = (within_le (pos-≤ℤ (omega arith)) (held_within area), h)
 
   -- what `signed_in` answers of the area
   signed : {r : ℤ} (i : ℕ) → i < 2 → mag r < 2 ^ 63 → r ≡ half_sign i *ℤ back s.args.area → Held areaLimit (back r) (half_sign i *ℤ s.args.area)
-  signed i h k e = record { is = result_is k (e ∙ ap (λ z. half_sign i *ℤ z) area.is); within = within_sign (half_sign_cases i h) s.pre.1 }
+  signed i h k e = record { is = result_is k (e ∙ ap (λ z. half_sign i *ℤ z) area.is); within = within_sign (half_sign_cases i h) s.requires.1 }
 
 abbrev product_limit : ℕ
 product_limit = far_limit * (greatest_coordinate + greatest_coordinate)
 
 -- ---- how far x lies from its side, times the run of y
-module _ (c : tie.After-from-side) where
+module _ (c : tie.After-from_side) where
   abbrev s : tie.Start
   s = c.before.before.before
 
-  across : Held product_limit (back c.from-side.result *ℤ back (back s.args.e.y1 -ℤ back s.args.e.y0))
+  across : Held product_limit (back c.from_side.result *ℤ back (back s.args.e.y1 -ℤ back s.args.e.y0))
       (from_half s.args.i (pos s.args.c.x *ℤ s.args.w) s.args.w s.args.e.x0 s.args.e.x1 *ℤ dy s.args.e)
-  across = let m = s.pre.0 in
-      held-mul (far s s.args.c.x s.args.i s.pre.2 m.x0 m.x1 c.from-side.type-inv c.from-side.ensures) (held_back tt (run s m.y0 m.y1))
+  across = let m = s.requires.0 in
+      held-mul (far s s.args.c.x s.args.i s.requires.2 m.x0 m.x1 c.from_side.type_inv c.from_side.ensures) (held_back tt (run s m.y0 m.y1))
 
-module _ (c : tie.After-from-side2) where
-  abbrev first : tie.After-from-side
+module _ (c : tie.After-from_side-2) where
+  abbrev first : tie.After-from_side
   first = c.before.before.before.before.before
 
-  down : Held product_limit (back c.from-side2.result *ℤ back (back (s first).args.e.x1 -ℤ back (s first).args.e.x0))
+  down : Held product_limit (back c.from_side-2.result *ℤ back (back (s first).args.e.x1 -ℤ back (s first).args.e.x0))
       (from_half (s first).args.j (pos (s first).args.c.y *ℤ (s first).args.w) (s first).args.w (s first).args.e.y0 (s first).args.e.y1 *ℤ dx (s first).args.e)
   down = let z = s first in
-      let m = z.pre.0 in
-      held-mul (far z z.args.c.y z.args.j z.pre.3 m.y0 m.y1 c.from-side2.type-inv c.from-side2.ensures) (held_back tt (run z m.x0 m.x1))
+      let m = z.requires.0 in
+      held-mul (far z z.args.c.y z.args.j z.requires.3 m.y0 m.y1 c.from_side-2.type_inv c.from_side-2.ensures) (held_back tt (run z m.x0 m.x1))
 
 -- ---- with the area
-module _ (c : tie.After-signed-in) where
-  abbrev second : tie.After-from-side2
+module _ (c : tie.After-signed_in) where
+  abbrev second : tie.After-from_side-2
   second = c.before.before.before
 
   abbrev z : tie.Start
   z = s (first second)
 
   h-held : Held (product_limit + areaLimit)
-      (back (back (first second).from-side.result *ℤ back (back z.args.e.y1 -ℤ back z.args.e.y0)) +ℤ back c.signed-in.result)
+      (back (back (first second).from_side.result *ℤ back (back z.args.e.y1 -ℤ back z.args.e.y0)) +ℤ back c.signed_in.result)
       (from_half z.args.i (pos z.args.c.x *ℤ z.args.w) z.args.w z.args.e.x0 z.args.e.x1 *ℤ dy z.args.e +ℤ half_sign z.args.i *ℤ z.args.area)
-  h-held = held-add (held_back tt (across (first second))) (signed z z.args.i z.pre.5 c.signed-in.type-inv c.signed-in.ensures)
+  h-held = held-add (held_back tt (across (first second))) (signed z z.args.i z.requires.5 c.signed_in.type_inv c.signed_in.ensures)
 
-module _ (c : tie.After-signed-in2) where
-  abbrev third : tie.After-signed-in
+module _ (c : tie.After-signed_in-2) where
+  abbrev third : tie.After-signed_in
   third = c.before
 
   abbrev y : tie.Start
   y = z third
 
   v-held : Held (areaLimit + product_limit)
-      (back c.signed-in2.result -ℤ back (back (second third).from-side2.result *ℤ back (back y.args.e.x1 -ℤ back y.args.e.x0)))
+      (back c.signed_in-2.result -ℤ back (back (second third).from_side-2.result *ℤ back (back y.args.e.x1 -ℤ back y.args.e.x0)))
       (half_sign y.args.j *ℤ y.args.area -ℤ from_half y.args.j (pos y.args.c.y *ℤ y.args.w) y.args.w y.args.e.y0 y.args.e.y1 *ℤ dx y.args.e)
-  v-held = held_sub (signed y y.args.j y.pre.6 c.signed-in2.type-inv c.signed-in2.ensures) (held_back tt (down (second third)))
+  v-held = held_sub (signed y y.args.j y.requires.6 c.signed_in-2.type_inv c.signed_in-2.ensures) (held_back tt (down (second third)))
 
 -- the sign of the lower half goes through the sum
 turned-sum : (i j : ℕ) → j < 2 → (h a : ℤ) → half_sign j *ℤ (h +ℤ half_sign i *ℤ a) ≡ turned j h +ℤ half_sign i *ℤ half_sign j *ℤ a
@@ -132,19 +130,19 @@ returns c =
     let v = from_half j (pos q.args.c.y *ℤ q.args.w) q.args.w q.args.e.y0 q.args.e.y1 *ℤ dx q.args.e in
     let k = half_sign j *ℤ q.args.area in
     details-eq (held_back tt (h-held t)).is ((held_back tt (v-held b)).is ∙ ring (v ∷ k ∷ []) (search read depth 40) tt)
-    (result_is c.signed-in3.type-inv c.signed-in3.ensures ∙ ap (λ z. half_sign j *ℤ z) (held_back tt (h-held t)).is ∙ turned-sum i j q.pre.6 h q.args.area)
+    (result_is c.signed_in-3.type_inv c.signed_in-3.ensures ∙ ap (λ z. half_sign j *ℤ z) (held_back tt (h-held t)).is ∙ turned-sum i j q.requires.6 h q.args.area)
 
-pub details-above-spec : {M : Type 1} → statement M
-details-above-spec =
+pub details_above_spec : {M : Type 1} → statement M
+details_above_spec =
     tie.close
     (tie.spec
     (λ c κs. let s = c.before.before in (again s s.requires.0.x0, again s s.requires.0.x1, s.requires.2, again s s.requires.4, s.requires.5))
-    (λ c. let z = s c.before.before in held_fits tt (run z z.pre.0.y0 z.pre.0.y1))
+    (λ c. let z = s c.before.before in held_fits tt (run z z.requires.0.y0 z.requires.0.y1))
     (λ c. held_fits tt (across c.before.before))
     (λ c κs. let s = c.before.before.before.before.before.before.before in (again s s.requires.0.y0, again s s.requires.0.y1, s.requires.3, again s s.requires.4, s.requires.6))
-    (λ c. let z = s (first c.before.before) in held_fits tt (run z z.pre.0.x0 z.pre.0.x1))
+    (λ c. let z = s (first c.before.before) in held_fits tt (run z z.requires.0.x0 z.requires.0.x1))
     (λ c. held_fits tt (down c.before.before))
-    (λ c κs. let z = s (first c.before.before) in area-asked z z.args.i z.pre.5)
+    (λ c κs. let z = s (first c.before.before) in area-asked z z.args.i z.requires.5)
     (λ c. held_fits tt (h-held c))
     (λ c κs. area-asked (z c) (z c).args.j (z c).requires.6)
     (λ c. held_fits tt (v-held c))

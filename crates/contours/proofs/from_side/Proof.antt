@@ -3,7 +3,7 @@ use mathlib.Core.Path.{◌≡◌, sym, ◌∙◌, ap}
 use mathlib.Core.List.{[], ◌∷◌}
 use Prim.Native.Nat.{ℕ, ◌+◌, ◌*◌, ◌<◌}
 use native.Mathlib.Omega.{arith}
-use lib.IntN.{ℤ, pos, ◌+ℤ◌, ◌-ℤ◌, ◌*ℤ◌}
+use lib.IntN.{pos, ◌+ℤ◌, ◌-ℤ◌, ◌*ℤ◌}
 use mir.Syntax.{w64}
 use mir.Val.{to_z}
 use mir.Facts.{to_z_pos}
@@ -22,7 +22,7 @@ module _ (s : tie.Start) where
   few = s.requires.2
 
   both : Held (greatest_coordinate + greatest_coordinate) (back s.args.p +ℤ back s.args.q) (s.args.p +ℤ s.args.q)
-  both = held-add (held_number tt s.pre.0) (held_number tt s.pre.1)
+  both = held-add (held_number tt s.requires.0) (held_number tt s.requires.1)
 
   -- k is twice the number of the side
   module _ (k : ℕ) (h : k < 2 * greatest_side + 2) where
@@ -30,7 +30,7 @@ module _ (s : tie.Start) where
     number = record { is = to_z_pos w64 (omega arith); within = within_le (pos-≤ℤ (omega arith)) (within_self (nonneg k)) }
 
     side : Held ((2 * greatest_side + 2) * greatest_coordinate) (to_z w64 k *ℤ back s.args.w) (pos k *ℤ s.args.w)
-    side = held-mul number (held_number tt s.pre.3)
+    side = held-mul number (held_number tt s.requires.3)
 
     past : Held (greatest_coordinate + greatest_coordinate + (2 * greatest_side + 2) * greatest_coordinate)
         (back (back s.args.p +ℤ back s.args.q) -ℤ back (to_z w64 k *ℤ back s.args.w)) ((s.args.p +ℤ s.args.q) -ℤ pos k *ℤ s.args.w)
@@ -46,24 +46,24 @@ module _ (s : tie.Start) where
   next : 2 * s.args.n + 2 < 2 * greatest_side + 2
   next = omega (arith, few)
 
-returns : tie.Need-returns
+returns : tie.Need-returns-then-half-eq0
 returns c =
     let s = c.before in
     let a = s.args in
-    let first : a.half ≡ 0 = omega (arith, c.if1.true) in
+    let first : a.half ≡ 0 = omega (arith, c.if-half-eq0.true) in
     (held_back tt (past s (2 * a.n) (twice s))).is ∙ ring (a.p ∷ a.q ∷ pos a.n ∷ a.w ∷ []) (search read depth 40) tt
     ∙ ap (λ b. from_half b (pos a.n *ℤ a.w) a.w a.p a.q) {x = 0} (sym first)
 
-returns-2 : tie.Need-returns-2
+returns-2 : tie.Need-returns-else-half-eq0
 returns-2 c =
     let s = c.before in
     let a = s.args in
-    let second : a.half ≡ 1 = omega (arith, c.if1.false, s.requires.4) in
+    let second : a.half ≡ 1 = omega (arith, c.if-half-eq0.false, s.requires.4) in
     (held_back tt (short s (2 * a.n + 2) (next s))).is ∙ ring (a.p ∷ a.q ∷ pos a.n ∷ a.w ∷ []) (search read depth 40) tt
     ∙ ap (λ b. from_half b (pos a.n *ℤ a.w) a.w a.p a.q) {x = 1} (sym second)
 
-pub from-side-spec : {M : Type 1} → statement M
-from-side-spec =
+pub from_side_spec : {M : Type 1} → statement M
+from_side_spec =
     tie.close
     (tie.spec
     (λ c. held_fits tt (both c.before))

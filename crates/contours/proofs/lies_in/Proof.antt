@@ -1,8 +1,7 @@
 -- It lies from the range's side to its end.
 use mathlib.Core.Path.{◌≡◌, refl, sym, ◌∙◌, ap, ap₂}
 use mathlib.Core.Bool.{Bool, true≢false}
-use mathlib.Core.List.{[], ◌∷◌}
-use Prim.Native.Nat.{ℕ, ◌+◌, ◌*◌, ◌<◌}
+use Prim.Native.Nat.{ℕ, ◌+◌, ◌*◌}
 use native.Mathlib.Omega.{arith}
 use lib.IntN.{ℤ, pos, ◌+ℤ◌, ◌*ℤ◌}
 use mir.Syntax.{w64}
@@ -10,7 +9,6 @@ use mir.Val.{SFits, to_z}
 use mir.Facts.{to_z-of_z, to_z_pos}
 use Rattle.integers.specs.Units.{greatest_side}
 use Rattle.integers.specs.Order.{pos-≤ℤ, nonneg}
-use Rattle.integers.specs.Linear.{le, ◌&◌, linear, lin≤}
 use Rattle.integers.specs.Within.{within_le, within_self}
 use Rattle.integers.specs.Bits.{back}
 use Rattle.integers.specs.Held.{Held, held-add, held-mul, held_fits, held_back}
@@ -26,7 +24,7 @@ module _ (s : tie.Start) where
   n = s.args.n
 
   number : Held greatest_side (to_z w64 n) (pos n)
-  number = record { is = to_z_pos w64 (omega (arith, s.pre)); within = within_le (pos-≤ℤ (omega (arith, s.pre))) (within_self (nonneg n)) }
+  number = record { is = to_z_pos w64 (omega (arith, s.requires)); within = within_le (pos-≤ℤ (omega (arith, s.requires))) (within_self (nonneg n)) }
 
   width : Held widest_run (pos widest_run) (pos widest_run)
   width = record { is = refl; within = within_self (nonneg widest_run) }
@@ -53,12 +51,12 @@ module _ (s : tie.Start) where
       is : b ≡ between lo hi p
       is = h ∙ ap₂ (λ x y. between x y (back p)) (held_back tt side).is (held_back tt end).is ∙ ap (between lo hi) (to_z-of_z f)
 
-pub lies-in-spec : {M : Type 1} → statement M
-lies-in-spec =
+pub lies_in_spec : {M : Type 1} → statement M
+lies_in_spec =
     tie.close
     (tie.spec
-    (λ s. record { sfits = omega (arith, s.pre) })
+    (λ s. record { sfits = omega (arith, s.requires) })
     (λ s. held_fits tt (side s))
     (λ s. held_fits tt (end s))
     (λ c κs. tt)
-    (λ c. told c.before c.before.ranges.p c.is_Within.ensures))
+    (λ c. told c.before c.before.ranges.p c.is_within.ensures))

@@ -6,29 +6,29 @@ use Rattle.contours.proofs.CellTests.{on_back}
 use Rattle.contours.proofs.lies_on_cell.Statement.{statement}
 use Rattle.contours.proofs.lies_on_cell.Tie as tie
 
-returns : tie.Need-returns
+returns : tie.Need-returns-then-is_on_cell
 returns c =
     let t = c.before.before.before in
     let s = t.before.before.before.before in
     let m = s.requires.2 in
-    let from = on_back (run_square s.args.c) m.x0 m.y0 t.before.is-on-cell.ensures in
-    let to = on_back (run_square s.args.c) m.x1 m.y1 c.is-on-cell2.ensures in
+    let from = on_back (run_square s.args.c) m.x0 m.y0 t.before.is_on_cell.ensures in
+    let to = on_back (run_square s.args.c) m.x1 m.y1 c.is_on_cell-then-is_on_cell.ensures in
     record {
-      yes = λ h. let a = from.yes t.if1.true in
+      yes = λ h. let a = from.yes t.if-is_on_cell.true in
           let b = to.yes h in
           record { x0 = a.0; y0 = a.1; x1 = b.0; y1 = b.1 };
       no = λ h o. to.no h (o.x1, o.y1);
     }
 
-returns-2 : tie.Need-returns-2
+returns-2 : tie.Need-returns-else-is_on_cell
 returns-2 c =
     let s = c.before.before.before.before in
     let m = s.requires.2 in
-    let from = on_back (run_square s.args.c) m.x0 m.y0 c.before.is-on-cell.ensures in
-    record { yes = λ h. absurd (true≢false (sym h ∙ c.if1.false)); no = λ h o. from.no h (o.x0, o.y0) }
+    let from = on_back (run_square s.args.c) m.x0 m.y0 c.before.is_on_cell.ensures in
+    record { yes = λ h. absurd (true≢false (sym h ∙ c.if-is_on_cell.false)); no = λ h o. from.no h (o.x0, o.y0) }
 
-pub lies-on-cell-spec : {M : Type 1} → statement M
-lies-on-cell-spec =
+pub lies_on_cell_spec : {M : Type 1} → statement M
+lies_on_cell_spec =
     tie.close
     (tie.spec
     (λ c κs. let s = c.before.before in (s.requires.0, s.requires.1))

@@ -3,5 +3,5 @@ use mathlib.Core.Path.{refl}
 use Rattle.contours.proofs.parent_of.Statement.{statement}
 use Rattle.contours.proofs.parent_of.Tie as tie
 
-pub parent-of-spec : {M : Type 1} → statement M
-parent-of-spec = tie.close (tie.spec (λ c. c.before.requires) (λ c. refl))
+pub parent_of_spec : {M : Type 1} → statement M
+parent_of_spec = tie.close (tie.spec (λ c. c.before.requires) (λ c. refl))

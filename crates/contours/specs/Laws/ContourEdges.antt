@@ -14,7 +14,7 @@ use Rattle.std.proofs.lemmas.List.{get_or_at}
 use Rattle.integers.specs.ListSum.{All, all_entry, total, total-entries}
 use Rattle.integers.specs.RangeSum.{Σ<, Σ_cong}
 use Rattle.edge.specs.declared.Edge.{Edge}
-use Rattle.accuracy.specs.Outline.{Point, points_of, point_at, edge_between, through, contour_edges}
+use Rattle.accuracy.specs.Outline.{Point, points_of, edge_between, through, contour_edges}
 use Rattle.accuracy.specs.Laws.Contours.{contour_edges-length}
 use Rattle.accuracy.specs.Laws.Coordinates.{points_of-length, points_of_entry}
 use Rattle.contours.specs.Contour.{next, edge_of}

@@ -7,7 +7,7 @@
 --   run_width, run-square        its width, and its square is that of the tile's cell
 --   on_cell_small                an edge on it is small
 use Rattle.std.specs.Prelude.{◌≡◌, [], ◌∷◌, ℕ, ◌+◌, ◌*◌, ◌-◌, ◌^◌, ◌<◌, ◌≤◌, ℤ, pos}
-use Rattle.std.proofs.Common.{sym, ◌∙◌, ap, subst, arith, pow_mono}
+use Rattle.std.proofs.Common.{sym, ap, arith, pow_mono}
 use Rattle.integers.specs.Units.{steps_per_pixel, greatest_depth, greatest_coordinate}
 use Rattle.integers.specs.Order.{pos-≤ℤ, nonneg}
 use Rattle.integers.specs.Linear.{le, ◌&◌, linear, lin≤}
