@@ -23,22 +23,22 @@ use Rattle.chords.proofs.NextContour.{Walked, contours_left, walked_none, contou
 use Rattle.chords.proofs.add_outline.Statement.{statement}
 use Rattle.chords.proofs.add_outline.Tie as tie
 
-abbrev invariant-loop : tie.invariant-loop
+abbrev invariant-loop : tie.invariant-loop-k
 invariant-loop table₀ points counts marks placement view sign depth from₀ start₀ k₀ k-end table from start k =
     Left view depth (to_z w64 sign) (added table₀ (edges_part view depth (to_z w64 sign) (outline_chords (marked_contours counts marks (placed placement points))))) table
     (outline_chords (contours_left counts marks placement points k from start))
     × Walked counts marks placement points k from start
 
-abbrev decreases-loop : tie.decreases-loop
+abbrev decreases-loop : tie.decreases-loop-k
 decreases-loop table₀ points counts marks placement view sign depth from₀ start₀ k₀ k-end table from start k = length counts - k
 
-loop-holds : tie.Need-loop-init invariant-loop decreases-loop
+loop-holds : tie.Need-loop-k-init invariant-loop decreases-loop
 loop-holds c =
     let s = c.before.before in
     (left_start s.requires.0 s.requires.1, walked_none s.args.counts.now s.args.marks.now s.args.placement s.args.points.now s.requires.4 s.requires.3)
 
 -- ---- the next contour, in the loop
-module _ (i : tie.In-loop invariant-loop decreases-loop) where
+module _ (i : tie.In-loop-k invariant-loop decreases-loop) where
   abbrev entry : tie.Start invariant-loop decreases-loop
   entry = i.before.before.before.before
 
@@ -52,19 +52,19 @@ module _ (i : tie.In-loop invariant-loop decreases-loop) where
   marks = entry.args.marks.now
 
   abbrev k : ℕ
-  k = i.before.loop.k
+  k = i.before.loop-k.k
 
   abbrev from : ℕ
-  from = i.before.loop.from
+  from = i.before.loop-k.from
 
   abbrev start : ℕ
-  start = i.before.loop.start
+  start = i.before.loop-k.start
 
   walked : Walked counts marks entry.args.placement points k from start
-  walked = i.before.loop.inv.1
+  walked = i.before.loop-k.invariant.1
 
   below : k < length counts
-  below = i.loop-test.taken
+  below = i.loop-k-test.true
 
   marks-bound : from + get_or counts k 0 ≤ length marks
   marks-bound = marks_there counts marks entry.args.placement points k from start walked below
@@ -87,102 +87,102 @@ module _ (i : tie.In-loop invariant-loop decreases-loop) where
 
     left : Left entry.args.view entry.args.depth (back entry.args.sign)
         (added entry.args.table.now (edges_part entry.args.view entry.args.depth (back entry.args.sign) (outline_chords (marked_contours counts marks (placed entry.args.placement points)))))
-        i.before.loop.table (this ++ others)
-    left = subst (Left _ _ _ _ _) (outline_next counts marks entry.args.placement points k from start walked below r e) i.before.loop.inv.0
+        i.before.loop-k.table (this ++ others)
+    left = subst (Left _ _ _ _ _) (outline_next counts marks entry.args.placement points k from start walked below r e) i.before.loop-k.invariant.0
 
-mul-upto : tie.Need-overflow-mul-upto invariant-loop decreases-loop
-mul-upto c = omega (arith, c.loop-test.true)
+mul-upto : tie.Need-offset_bounds-counts-k invariant-loop decreases-loop
+mul-upto c = omega (arith, c.loop-k-test.true)
 
-cast-upto : tie.Need-overflow-cast-upto invariant-loop decreases-loop
+cast-upto : tie.Need-overflow_cast-upto invariant-loop decreases-loop
 cast-upto c = let b = marks-bound c.before in record { fits = omega arith }
 
-add-upto : tie.Need-overflow-add-upto invariant-loop decreases-loop
+add-upto : tie.Need-overflow_add-upto invariant-loop decreases-loop
 add-upto c = let b = marks-bound c.before in record { fits = omega arith }
 
-sub-numbers-of : tie.Need-overflow-sub-numbers-of invariant-loop decreases-loop
+sub-numbers-of : tie.Need-slice_bounds-numbers_of-count invariant-loop decreases-loop
 sub-numbers-of c = omega arith
 
-part-numbers-of-start : tie.Need-slice-bounds-numbers-of-start invariant-loop decreases-loop
+part-numbers-of-start : tie.Need-slice_bounds-numbers_of-start invariant-loop decreases-loop
 part-numbers-of-start c = let b = marks-bound c.before in omega arith
 
-part-numbers-of-end : tie.Need-slice-bounds-numbers-of-end invariant-loop decreases-loop
+part-numbers-of-end : tie.Need-slice_bounds-numbers_of-end invariant-loop decreases-loop
 part-numbers-of-end c = let b = marks-bound c.before in omega arith
 
-numbers-of-requires : tie.Need-numbers-of-requires invariant-loop decreases-loop
+numbers-of-requires : tie.Need-numbers_of-requires invariant-loop decreases-loop
 numbers-of-requires c κs =
     let i = c.before.before in
     let b = points-bound i (numbers (own i)) refl in
     omega arith
 
-add-end : tie.Need-overflow-add-end invariant-loop decreases-loop
-add-end c = let b = points-bound c.before.before.before c.Numbers-of.result c.Numbers-of.ensures in record { fits = omega arith }
+add-end : tie.Need-overflow_add-end invariant-loop decreases-loop
+add-end c = let b = points-bound c.before.before.before c.numbers_of.result c.numbers_of.ensures in record { fits = omega arith }
 
-mul-add-contour : tie.Need-overflow-mul-add-contour invariant-loop decreases-loop
-mul-add-contour c = let b = points-bound c.before.before.before.before c.before.Numbers-of.result c.before.Numbers-of.ensures in record { fits = omega arith }
+mul-add-contour : tie.Need-offset_bounds-points-start invariant-loop decreases-loop
+mul-add-contour c = let b = points-bound c.before.before.before.before c.before.numbers_of.result c.before.numbers_of.ensures in record { fits = omega arith }
 
-sub-add-contour : tie.Need-overflow-sub-add-contour invariant-loop decreases-loop
+sub-add-contour : tie.Need-slice_bounds-add_contour-count invariant-loop decreases-loop
 sub-add-contour c = omega arith
 
-part-add-contour-start : tie.Need-slice-bounds-add-contour-start invariant-loop decreases-loop
-part-add-contour-start c = let b = points-bound c.before.before.before.before c.before.Numbers-of.result c.before.Numbers-of.ensures in omega arith
+part-add-contour-start : tie.Need-slice_bounds-add_contour-start invariant-loop decreases-loop
+part-add-contour-start c = let b = points-bound c.before.before.before.before c.before.numbers_of.result c.before.numbers_of.ensures in omega arith
 
-part-add-contour-end : tie.Need-slice-bounds-add-contour-end invariant-loop decreases-loop
-part-add-contour-end c = let b = points-bound c.before.before.before.before c.before.Numbers-of.result c.before.Numbers-of.ensures in omega arith
+part-add-contour-end : tie.Need-slice_bounds-add_contour-end invariant-loop decreases-loop
+part-add-contour-end c = let b = points-bound c.before.before.before.before c.before.numbers_of.result c.before.numbers_of.ensures in omega arith
 
-sub-add-contour-2 : tie.Need-overflow-sub-add-contour-2 invariant-loop decreases-loop
+sub-add-contour-2 : tie.Need-slice_bounds-add_contour-count-in-loop-k invariant-loop decreases-loop
 sub-add-contour-2 c = omega arith
 
-part-add-contour-start-2 : tie.Need-slice-bounds-add-contour-start-2 invariant-loop decreases-loop
+part-add-contour-start-2 : tie.Need-slice_bounds-add_contour-start-in-loop-k invariant-loop decreases-loop
 part-add-contour-start-2 c = let b = marks-bound c.before.before.before.before.before in omega arith
 
-part-add-contour-end-2 : tie.Need-slice-bounds-add-contour-end-2 invariant-loop decreases-loop
+part-add-contour-end-2 : tie.Need-slice_bounds-add_contour-end-in-loop-k invariant-loop decreases-loop
 part-add-contour-end-2 c = let b = marks-bound c.before.before.before.before.before in omega arith
 
-add-contour-requires : tie.Need-add-contour-requires invariant-loop decreases-loop
+add-contour-requires : tie.Need-add_contour-requires invariant-loop decreases-loop
 add-contour-requires c κs =
     let n = c.before.before.before in
     let i = n.before.before.before in
     let s = entry i in
-    let r = n.Numbers-of.result in
-    let e = n.Numbers-of.ensures in (
+    let r = n.numbers_of.result in
+    let e = n.numbers_of.ensures in (
       left-fits (this i r e) (others i r e) (left i r e),
       left_in (this i r e) (others i r e) (left i r e),
-      held_within (held_number tt s.pre.2),
+      held_within (held_number tt s.requires.2),
       own_length (counts i) (marks i) s.args.placement (points i) (k i) (from i) (start i) (walked i) (below i) r e,
-      own_has (counts i) (marks i) s.args.placement (points i) (k i) (from i) (start i) (walked i) (below i) r e OnSheet s.pre.5,
-      placeable_part s.args.placement (start i) (start i + r - start i) (points i) s.pre.6,
+      own_has (counts i) (marks i) s.args.placement (points i) (k i) (from i) (start i) (walked i) (below i) r e OnSheet s.requires.5,
+      placeable_part s.args.placement (start i) (start i + r - start i) (points i) s.requires.6,
     )
 
-add-k : tie.Need-overflow-add-k invariant-loop decreases-loop
-add-k c = omega (arith, c.before.before.before.before.before.before.before.before.loop-test.true)
+add-k : tie.Need-overflow_step-k invariant-loop decreases-loop
+add-k c = omega (arith, c.before.before.before.before.before.before.before.before.loop-k-test.true)
 
-loop-less : tie.Need-loop-smaller invariant-loop decreases-loop
-loop-less c = omega (arith, c.before.before.before.before.before.before.before.before.loop-test.true)
+loop-less : tie.Need-loop-k-smaller invariant-loop decreases-loop
+loop-less c = omega (arith, c.before.before.before.before.before.before.before.before.loop-k-test.true)
 
-loop-again : tie.Need-loop-preserved invariant-loop decreases-loop
+loop-again : tie.Need-loop-k-preserved invariant-loop decreases-loop
 loop-again c =
     let n = c.before.before.before.before.before in
     let i = n.before.before.before in
     let s = entry i in
-    let r = n.Numbers-of.result in
-    let e = n.Numbers-of.ensures in (
-      left_next (this i r e) (others i r e) (left i r e) (held_within (held_number tt s.pre.2)) c.before.add-contour.ensures,
+    let r = n.numbers_of.result in
+    let e = n.numbers_of.ensures in (
+      left_next (this i r e) (others i r e) (left i r e) (held_within (held_number tt s.requires.2)) c.before.add_contour.ensures,
       walked_next (counts i) (marks i) s.args.placement (points i) (k i) (from i) (start i) (walked i) (below i) r e,
     )
 
-same_length : tie.Need-same-length invariant-loop decreases-loop
-same_length c = c.before.loop.invariant.0.fits.exact ∙ sym c.before.before.before.before.requires.0.exact
+same_length : tie.Need-shape_of-table invariant-loop decreases-loop
+same_length c = c.before.loop-k.invariant.0.fits.exact ∙ sym c.before.before.before.before.requires.0.exact
 
 returns : tie.Need-returns invariant-loop decreases-loop
 returns c =
     let s = c.before.before.before.before in
-    let l = c.before.loop in
+    let l = c.before.loop-k in
     let a = s.args in
     subst (λ z. l.table ≡ added a.table.now (edges_part a.view a.depth z (outline_chords (marked_contours a.counts.now a.marks.now (placed a.placement a.points.now))))) (back_is tt s.requires.2)
-    (left_none (subst (Left _ _ _ _ _) (contours_end a.counts.now a.marks.now a.placement a.points.now l.k l.from l.start c.loop-test.false) l.invariant.0))
+    (left_none (subst (Left _ _ _ _ _) (contours_end a.counts.now a.marks.now a.placement a.points.now l.k l.from l.start c.loop-k-test.false) l.invariant.0))
 
-pub add-outline-spec : {M : Type 1} → statement M
-add-outline-spec =
+pub add_outline_spec : {M : Type 1} → statement M
+add_outline_spec =
     tie.close
     (tie.spec
     invariant-loop

@@ -24,23 +24,23 @@ small s =
     let most = splits_most (bend c.x0 c.cx c.x1) (bend c.y0 c.cy c.y1) in
     omega (arith, s.requires.2, pow_mono {i = s.args.k} {j = most_splits} (omega (arith, s.requires.1, most)))
 
-chord-point-requires : tie.Need-chord-point-requires
+chord-point-requires : tie.Need-chord_point-from-requires
 chord-point-requires c κs = (c.requires.0, c.requires.1, omega (arith, c.requires.2))
 
-add-chord-point : tie.Need-overflow-add-chord-point
+add-chord-point : tie.Need-overflow_add-i
 add-chord-point c = let h = small c.before in record { fits = omega arith }
 
-chord-point-requires-2 : tie.Need-chord-point-requires-2
+chord-point-requires-2 : tie.Need-chord_point-to-requires
 chord-point-requires-2 c κs = let s = c.before in (s.requires.0, s.requires.1, omega (arith, s.requires.2))
 
 returns : tie.Need-returns
 returns c =
     let second = c.before.before in
     let first = second.before in
-    let f = c.before.struct_told.given in
-    let g = c.struct-told2.given in
-    edge-eq (field_is _ f.0.1 ∙ first.chord-point.ensures.0) (field_is _ f.1.0.1 ∙ first.chord-point.ensures.1)
-    (field_is _ g.0.1 ∙ second.chord-point2.ensures.0) (field_is _ g.1.0.1 ∙ second.chord-point2.ensures.1)
+    let f = c.before.struct_told-1.given in
+    let g = c.struct_told-2-1.given in
+    edge-eq (field_is _ f.0.1 ∙ first.chord_point-from.ensures.0) (field_is _ f.1.0.1 ∙ first.chord_point-from.ensures.1)
+    (field_is _ g.0.1 ∙ second.chord_point-to.ensures.0) (field_is _ g.1.0.1 ∙ second.chord_point-to.ensures.1)
 
-pub chord-spec : {M : Type 1} → statement M
-chord-spec = tie.close (tie.spec chord-point-requires add-chord-point chord-point-requires-2 returns)
+pub chord_spec : {M : Type 1} → statement M
+chord_spec = tie.close (tie.spec chord-point-requires add-chord-point chord-point-requires-2 returns)

@@ -17,12 +17,12 @@ most s = let c = s.args.c in omega (arith, s.requires.1, splits_most (bend c.x0 
 same : {p q r p' q' r' : ℤ} (k i : ℕ) {k' : ℕ} → p ≡ p' → q ≡ q' → r ≡ r' → k ≡ k' → chord_end p q r k i ≡ chord_end p' q' r' k' i
 same {p} {q} {r} {p'} {q'} {r'} k i a b c d = ap₂ (λ x y. chord_end x y r k i) a b ∙ ap₂ (λ z m. chord_end p' q' z m i) c d
 
-chord-end-requires : tie.Need-chord-end-requires
+chord-end-requires : tie.Need-chord_end-requires
 chord-end-requires c κs =
     let s = c.before.before.before in
     (on_again s.requires.0.0, on_again s.requires.0.1, on_again s.requires.0.2, most s, s.requires.2)
 
-chord-end-requires-2 : tie.Need-chord-end-requires-2
+chord-end-requires-2 : tie.Need-chord_end-requires-2
 chord-end-requires-2 c κs =
     let s = c.before.before.before.before.before.before.before in
     (on_again s.requires.0.3, on_again s.requires.0.4, on_again s.requires.0.5, most s, s.requires.2)
@@ -33,9 +33,9 @@ returns c =
     let s = a.before.before.before.before in
     let w = s.requires.0 in
     let k = s.requires.1 in (
-      result_is a.chord-end.type-inv (a.chord-end.ensures ∙ same s.args.k s.args.i (on_back w.0) (on_back w.1) (on_back w.2) k),
-      result_is c.chord-end2.type-inv (c.chord-end2.ensures ∙ same s.args.k s.args.i (on_back w.3) (on_back w.4) (on_back w.5) k),
+      result_is a.chord_end.type_inv (a.chord_end.ensures ∙ same s.args.k s.args.i (on_back w.0) (on_back w.1) (on_back w.2) k),
+      result_is c.chord_end-2.type_inv (c.chord_end-2.ensures ∙ same s.args.k s.args.i (on_back w.3) (on_back w.4) (on_back w.5) k),
     )
 
-pub chord-point-spec : {M : Type 1} → statement M
-chord-point-spec = tie.close (tie.spec chord-end-requires chord-end-requires-2 returns)
+pub chord_point_spec : {M : Type 1} → statement M
+chord_point_spec = tie.close (tie.spec chord-end-requires chord-end-requires-2 returns)

@@ -13,22 +13,22 @@ use Rattle.chords.proofs.chords_in.Statement.{statement}
 use Rattle.chords.proofs.chords_in.Tie as tie
 
 splits-requires : tie.Need-splits-requires
-splits-requires c κs = let s = c.before.before.before in subst (SideWithin OnSheet) c.before.side.given.1 s.requires
+splits-requires c κs = subst (SideWithin OnSheet) c.in-Curved.is c.before.requires
 
-chords-at-requires : tie.Need-chords-at-requires
+chords-at-requires : tie.Need-chords_at-requires
 chords-at-requires c κs =
-    let k = c.before.before.side.given.0.0 in
+    let k = c.before.in-Curved.c in
     omega (arith, c.splits.ensures, splits_most (bend k.x0 k.cx k.x1) (bend k.y0 k.cy k.y1))
 
-returns : tie.Need-returns
-returns c = sym (ap (λ s. length (chords_of s)) c.enum_told.given.1 ∙ ap length (straight_chords _))
+returns : tie.Need-returns-in-Straight
+returns c = sym (ap (λ s. length (chords_of s)) c.in-Straight.is ∙ ap length (straight_chords _))
 
-returns-2 : tie.Need-returns-2
+returns-2 : tie.Need-returns-in-Curved
 returns-2 c =
     let a = c.before in
-    let k = a.before.before.side.given.0.0 in
-    c.chords-at.ensures ∙ ap (λ n. 2 ^ n) a.splits.ensures ∙ sym (curved_length k)
-    ∙ sym (ap (λ s. length (chords_of s)) a.before.before.side.given.1)
+    let k = a.before.in-Curved.c in
+    c.chords_at.ensures ∙ ap (λ n. 2 ^ n) a.splits.ensures ∙ sym (curved_length k)
+    ∙ sym (ap (λ s. length (chords_of s)) a.before.in-Curved.is)
 
-pub chords-in-spec : {M : Type 1} → statement M
-chords-in-spec = tie.close (tie.spec (λ c. search rules) (λ c. search rules) splits-requires chords-at-requires returns returns-2)
+pub chords_in_spec : {M : Type 1} → statement M
+chords_in_spec = tie.close (tie.spec (λ c. search rules) (λ c. search rules) splits-requires chords-at-requires returns returns-2)

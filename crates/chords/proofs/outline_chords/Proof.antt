@@ -23,21 +23,21 @@ use Rattle.chords.proofs.outline_chords.Statement.{statement}
 use Rattle.chords.proofs.outline_chords.Tie as tie
 
 -- those so far, and those of the contours that are left
-abbrev invariant-loop : tie.invariant-loop
+abbrev invariant-loop : tie.invariant-loop-k
 invariant-loop points counts marks placement sum₀ from₀ start₀ k₀ sum from start k =
     (sum + length (outline_chords (contours_left counts marks placement points k from start)) ≡ length (outline_chords (marked_contours counts marks (placed placement points))))
     × Walked counts marks placement points k from start × (sum ≤ most_edges)
 
-abbrev decreases-loop : tie.decreases-loop
+abbrev decreases-loop : tie.decreases-loop-k
 decreases-loop points counts marks placement sum₀ from₀ start₀ k₀ sum from start k = length counts - k
 
-loop-holds : tie.Need-loop-init invariant-loop decreases-loop
+loop-holds : tie.Need-loop-k-init invariant-loop decreases-loop
 loop-holds c =
     let s = c.before.before in
     (zero-add _, walked_none s.args.counts.now s.args.marks.now s.args.placement s.args.points.now s.requires.1 s.requires.0, omega arith)
 
 -- ---- the next contour, in the loop
-module _ (i : tie.In-loop invariant-loop decreases-loop) where
+module _ (i : tie.In-loop-k invariant-loop decreases-loop) where
   abbrev entry : tie.Start invariant-loop decreases-loop
   entry = i.before.before.before.before
 
@@ -51,25 +51,25 @@ module _ (i : tie.In-loop invariant-loop decreases-loop) where
   marks = entry.args.marks.now
 
   abbrev k : ℕ
-  k = i.before.loop.k
+  k = i.before.loop-k.k
 
   abbrev from : ℕ
-  from = i.before.loop.from
+  from = i.before.loop-k.from
 
   abbrev start : ℕ
-  start = i.before.loop.start
+  start = i.before.loop-k.start
 
   walked : Walked counts marks entry.args.placement points k from start
-  walked = i.before.loop.inv.1
+  walked = i.before.loop-k.invariant.1
 
   below : k < length counts
-  below = i.loop-test.taken
+  below = i.loop-k-test.true
 
   marks-bound : from + get_or counts k 0 ≤ length marks
   marks-bound = marks_there counts marks entry.args.placement points k from start walked below
 
   few : get_or counts k 0 ≤ most_points
-  few = all_entry (λ n. n ≤ most_points) 0 counts entry.pre.2 k below
+  few = all_entry (λ n. n ≤ most_points) 0 counts entry.requires.2 k below
 
   abbrev own : List ℕ
   own = own_marks counts marks entry.args.placement points k from start walked below
@@ -81,137 +81,137 @@ module _ (i : tie.In-loop invariant-loop decreases-loop) where
     abbrev its : List ℤ
     its = own_points counts marks entry.args.placement points k from start walked below r e
 
-mul-upto : tie.Need-overflow-mul-upto invariant-loop decreases-loop
-mul-upto c = omega (arith, c.loop-test.true)
+mul-upto : tie.Need-offset_bounds-counts-k invariant-loop decreases-loop
+mul-upto c = omega (arith, c.loop-k-test.true)
 
-cast-upto : tie.Need-overflow-cast-upto invariant-loop decreases-loop
+cast-upto : tie.Need-overflow_cast-upto invariant-loop decreases-loop
 cast-upto c = let b = marks-bound c.before in record { fits = omega arith }
 
-add-upto : tie.Need-overflow-add-upto invariant-loop decreases-loop
+add-upto : tie.Need-overflow_add-upto invariant-loop decreases-loop
 add-upto c = let b = marks-bound c.before in record { fits = omega arith }
 
-sub-numbers-of : tie.Need-overflow-sub-numbers-of invariant-loop decreases-loop
+sub-numbers-of : tie.Need-slice_bounds-numbers_of-count invariant-loop decreases-loop
 sub-numbers-of c = omega arith
 
-part-numbers-of-start : tie.Need-slice-bounds-numbers-of-start invariant-loop decreases-loop
+part-numbers-of-start : tie.Need-slice_bounds-numbers_of-start invariant-loop decreases-loop
 part-numbers-of-start c = let b = marks-bound c.before in omega arith
 
-part-numbers-of-end : tie.Need-slice-bounds-numbers-of-end invariant-loop decreases-loop
+part-numbers-of-end : tie.Need-slice_bounds-numbers_of-end invariant-loop decreases-loop
 part-numbers-of-end c = let b = marks-bound c.before in omega arith
 
-numbers-of-requires : tie.Need-numbers-of-requires invariant-loop decreases-loop
+numbers-of-requires : tie.Need-numbers_of-requires invariant-loop decreases-loop
 numbers-of-requires c κs =
     let i = c.before.before in
     let b = points-bound i (numbers (own i)) refl in
     omega arith
 
-add-end : tie.Need-overflow-add-end invariant-loop decreases-loop
-add-end c = let b = points-bound c.before.before.before c.Numbers-of.result c.Numbers-of.ensures in record { fits = omega arith }
+add-end : tie.Need-overflow_add-end invariant-loop decreases-loop
+add-end c = let b = points-bound c.before.before.before c.numbers_of.result c.numbers_of.ensures in record { fits = omega arith }
 
-mul-chords-of : tie.Need-overflow-mul-chords-of invariant-loop decreases-loop
-mul-chords-of c = let b = points-bound c.before.before.before c.Numbers-of.result c.Numbers-of.ensures in record { fits = omega arith }
+mul-chords-of : tie.Need-offset_bounds-points-start invariant-loop decreases-loop
+mul-chords-of c = let b = points-bound c.before.before.before c.numbers_of.result c.numbers_of.ensures in record { fits = omega arith }
 
-sub-chords-of : tie.Need-overflow-sub-chords-of invariant-loop decreases-loop
+sub-chords-of : tie.Need-slice_bounds-chords_of-count invariant-loop decreases-loop
 sub-chords-of c = omega arith
 
-part-chords-of-start : tie.Need-slice-bounds-chords-of-start invariant-loop decreases-loop
-part-chords-of-start c = let b = points-bound c.before.before.before c.Numbers-of.result c.Numbers-of.ensures in omega arith
+part-chords-of-start : tie.Need-slice_bounds-chords_of-start invariant-loop decreases-loop
+part-chords-of-start c = let b = points-bound c.before.before.before c.numbers_of.result c.numbers_of.ensures in omega arith
 
-part-chords-of-end : tie.Need-slice-bounds-chords-of-end invariant-loop decreases-loop
-part-chords-of-end c = let b = points-bound c.before.before.before c.Numbers-of.result c.Numbers-of.ensures in omega arith
+part-chords-of-end : tie.Need-slice_bounds-chords_of-end invariant-loop decreases-loop
+part-chords-of-end c = let b = points-bound c.before.before.before c.numbers_of.result c.numbers_of.ensures in omega arith
 
-sub-chords-of-2 : tie.Need-overflow-sub-chords-of-2 invariant-loop decreases-loop
+sub-chords-of-2 : tie.Need-slice_bounds-chords_of-count-in-loop-k invariant-loop decreases-loop
 sub-chords-of-2 c = omega arith
 
-part-chords-of-start-2 : tie.Need-slice-bounds-chords-of-start-2 invariant-loop decreases-loop
+part-chords-of-start-2 : tie.Need-slice_bounds-chords_of-start-in-loop-k invariant-loop decreases-loop
 part-chords-of-start-2 c = let b = marks-bound c.before.before.before.before in omega arith
 
-part-chords-of-end-2 : tie.Need-slice-bounds-chords-of-end-2 invariant-loop decreases-loop
+part-chords-of-end-2 : tie.Need-slice_bounds-chords_of-end-in-loop-k invariant-loop decreases-loop
 part-chords-of-end-2 c = let b = marks-bound c.before.before.before.before in omega arith
 
-chords-of-requires : tie.Need-chords-of-requires invariant-loop decreases-loop
+chords-of-requires : tie.Need-chords_of-sum-requires invariant-loop decreases-loop
 chords-of-requires c κs =
     let n = c.before.before in
     let i = n.before.before.before in
     let s = entry i in
-    let r = n.Numbers-of.result in
-    let e = n.Numbers-of.ensures in
+    let r = n.numbers_of.result in
+    let e = n.numbers_of.ensures in
     let count = own_count (counts i) (marks i) s.args.placement (points i) (k i) (from i) (start i) (walked i) (below i) in (
       own_length (counts i) (marks i) s.args.placement (points i) (k i) (from i) (start i) (walked i) (below i) r e,
       omega (arith, count, few i),
-      own_has (counts i) (marks i) s.args.placement (points i) (k i) (from i) (start i) (walked i) (below i) r e OnSheet s.pre.3,
-      placeable_part s.args.placement (start i) (start i + r - start i) (points i) s.pre.4,
+      own_has (counts i) (marks i) s.args.placement (points i) (k i) (from i) (start i) (walked i) (below i) r e OnSheet s.requires.3,
+      placeable_part s.args.placement (start i) (start i + r - start i) (points i) s.requires.4,
     )
 
 -- the contour's chords, of which there are at most 128 for each mark
-module _ (c : tie.After-chords-of invariant-loop decreases-loop) where
-  abbrev n : tie.After-numbers-of invariant-loop decreases-loop
+module _ (c : tie.After-chords_of-sum invariant-loop decreases-loop) where
+  abbrev n : tie.After-numbers_of invariant-loop decreases-loop
   n = c.before.before.before
 
-  abbrev i : tie.In-loop invariant-loop decreases-loop
+  abbrev i : tie.In-loop-k invariant-loop decreases-loop
   i = n.before.before.before
 
-  bounded : c.chords-of.result ≤ most_points * most_chords
+  bounded : c.chords_of-sum.result ≤ most_points * most_chords
   bounded =
-      let contour = marked_contour (own i) (placed (entry i).args.placement (its i n.Numbers-of.result n.Numbers-of.ensures)) in
+      let contour = marked_contour (own i) (placed (entry i).args.placement (its i n.numbers_of.result n.numbers_of.ensures)) in
       let count = own_count (counts i) (marks i) (entry i).args.placement (points i) (k i) (from i) (start i) (walked i) (below i) in
-      omega (arith, c.chords-of.ensures, contour_few contour, count, few i)
+      omega (arith, c.chords_of-sum.ensures, contour_few contour, count, few i)
 
   -- and those of the contours after it
   abbrev rest : List Edge
-  rest = outline_chords (contours_left (counts i) (marks i) (entry i).args.placement (points i) (k i + 1) (from i + get_or (counts i) (k i) 0) (start i + n.Numbers-of.result))
+  rest = outline_chords (contours_left (counts i) (marks i) (entry i).args.placement (points i) (k i + 1) (from i + get_or (counts i) (k i) 0) (start i + n.numbers_of.result))
 
   abbrev all : List Edge
   all = outline_chords (marked_contours (counts i) (marks i) (placed (entry i).args.placement (points i)))
 
-  counted : i.before.loop.sum + c.chords-of.result + length rest ≡ length all
+  counted : i.before.loop-k.sum + c.chords_of-sum.result + length rest ≡ length all
   counted =
-      let r = n.Numbers-of.result in
-      let e = n.Numbers-of.ensures in
+      let r = n.numbers_of.result in
+      let e = n.numbers_of.ensures in
       let this = contour_chords (marked_contour (own i) (placed (entry i).args.placement (its i r e))) in
       let next = ap length (outline_next (counts i) (marks i) (entry i).args.placement (points i) (k i) (from i) (start i) (walked i) (below i) r e) ∙ length-append this rest in
-      omega (arith, c.chords-of.ensures, next, i.before.loop.inv.0)
+      omega (arith, c.chords_of-sum.ensures, next, i.before.loop-k.invariant.0)
 
-add-sum : tie.Need-overflow-add-sum invariant-loop decreases-loop
-add-sum c = let i = i c in record { fits = omega (arith, bounded c, i.before.loop.inv.2) }
+add-sum : tie.Need-overflow_add-sum invariant-loop decreases-loop
+add-sum c = let i = i c in record { fits = omega (arith, bounded c, i.before.loop-k.invariant.2) }
 
-add-result : tie.Need-overflow-add-result invariant-loop decreases-loop
+add-result : tie.Need-overflow_add-result invariant-loop decreases-loop
 add-result c = record { fits = omega arith }
 
-returns : tie.Need-returns invariant-loop decreases-loop
+returns : tie.Need-returns-then-sum-gt-MOST_EDGES invariant-loop decreases-loop
 returns c =
     let a = c.before in
-    sym (ap (λ b. cond b (length (all a)) (suc most_edges)) (lt-leb (length (all a)) most_edges (omega (arith, counted a, c.if1.true))))
+    sym (ap (λ b. cond b (length (all a)) (suc most_edges)) (lt-leb (length (all a)) most_edges (omega (arith, counted a, c.if-sum-gt-MOST_EDGES.true))))
 
-add-k : tie.Need-overflow-add-k invariant-loop decreases-loop
-add-k c = omega (arith, c.before.before.before.before.before.before.before.loop-test.true)
+add-k : tie.Need-overflow_add-k invariant-loop decreases-loop
+add-k c = omega (arith, c.before.before.before.before.before.before.before.loop-k-test.true)
 
-loop-less : tie.Need-loop-smaller invariant-loop decreases-loop
-loop-less c = omega (arith, c.before.before.before.before.before.before.before.loop-test.true)
+loop-less : tie.Need-loop-k-smaller invariant-loop decreases-loop
+loop-less c = omega (arith, c.before.before.before.before.before.before.before.loop-k-test.true)
 
-loop-again : tie.Need-loop-preserved invariant-loop decreases-loop
+loop-again : tie.Need-loop-k-preserved invariant-loop decreases-loop
 loop-again c =
     let a = c.before in
     let i = i a in
     let s = entry i in
-    let r = (n a).Numbers-of.result in (
+    let r = (n a).numbers_of.result in (
       counted a,
-      walked_next (counts i) (marks i) s.args.placement (points i) (k i) (from i) (start i) (walked i) (below i) r (n a).Numbers-of.ensures,
-      c.if1.false,
+      walked_next (counts i) (marks i) s.args.placement (points i) (k i) (from i) (start i) (walked i) (below i) r (n a).numbers_of.ensures,
+      c.if-sum-gt-MOST_EDGES.false,
     )
 
-returns-2 : tie.Need-returns-2 invariant-loop decreases-loop
+returns-2 : tie.Need-returns invariant-loop decreases-loop
 returns-2 c =
     let s = c.before.before.before.before in
-    let l = c.before.loop in
+    let l = c.before.loop-k in
     let a = s.args in
     let all = length (outline_chords (marked_contours a.counts.now a.marks.now (placed a.placement a.points.now))) in
-    let none = ap length (contours_end a.counts.now a.marks.now a.placement a.points.now l.k l.from l.start c.loop-test.false) in
+    let none = ap length (contours_end a.counts.now a.marks.now a.placement a.points.now l.k l.from l.start c.loop-k-test.false) in
     let same : l.sum ≡ all = omega (arith, none, l.invariant.0) in
     same ∙ sym (ap (λ b. cond b all (suc most_edges)) (le-leb all most_edges (omega (arith, same, l.invariant.2))))
 
-pub outline-chords-spec : {M : Type 1} → statement M
-outline-chords-spec =
+pub outline_chords_spec : {M : Type 1} → statement M
+outline_chords_spec =
     tie.close
     (tie.spec
     invariant-loop

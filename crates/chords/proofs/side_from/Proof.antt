@@ -35,17 +35,17 @@ module _ (s : tie.Start) where
       ap (λ n. cond b (Straight (edge_of zs n s.args.k)) (Curved (curve_at zs n s.args.k))) halves
       ∙ sym (ap (λ b. cond b (Straight (edge_of zs (length zs / 2) s.args.k)) (Curved (curve_at zs (length zs / 2) s.args.k))) e)
 
-edge-from-requires : tie.Need-edge-from-requires
-edge-from-requires c κs = let s = c.before in (omega (arith, own s (eq-eqb _ _ c.if1.true), s.requires.0), omega arith, s.requires.1)
+edge-from-requires : tie.Need-edge_from-requires
+edge-from-requires c κs = let s = c.before in (omega (arith, own s (eq-eqb _ _ c.if-mark-eq-STRAIGHT.true), s.requires.0), omega arith, s.requires.1)
 
-returns : tie.Need-returns
-returns c = ap Straight c.edge-from.ensures ∙ side_is c.before.before (eq-eqb _ _ c.before.if1.true)
+returns : tie.Need-returns-then-mark-eq-STRAIGHT
+returns c = ap Straight c.edge_from.ensures ∙ side_is c.before.before (eq-eqb _ _ c.before.if-mark-eq-STRAIGHT.true)
 
-curve-from-requires : tie.Need-curve-from-requires
-curve-from-requires c κs = let s = c.before in (omega (arith, own s (ne_eqb _ _ c.if1.false), s.requires.0), omega arith, s.requires.1)
+curve-from-requires : tie.Need-curve_from-requires
+curve-from-requires c κs = let s = c.before in (omega (arith, own s (ne_eqb _ _ c.if-mark-eq-STRAIGHT.false), s.requires.0), omega arith, s.requires.1)
 
-returns-2 : tie.Need-returns-2
-returns-2 c = ap Curved c.curve-from.ensures ∙ side_is c.before.before (ne_eqb _ _ c.before.if1.false)
+returns-2 : tie.Need-returns
+returns-2 c = ap Curved c.curve_from.ensures ∙ side_is c.before.before (ne_eqb _ _ c.before.if-mark-eq-STRAIGHT.false)
 
-pub side-from-spec : {M : Type 1} → statement M
-side-from-spec = tie.close (tie.spec edge-from-requires returns curve-from-requires returns-2)
+pub side_from_spec : {M : Type 1} → statement M
+side_from_spec = tie.close (tie.spec edge-from-requires returns curve-from-requires returns-2)
