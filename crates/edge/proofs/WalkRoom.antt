@@ -22,7 +22,7 @@ use Rattle.integers.specs.Within.{Within, within_le, within_mul, within_self}
 use Rattle.edge.specs.declared.Axis.{Axis}
 use Rattle.edge.specs.declared.Cell.{Cell}
 use Rattle.edge.specs.declared.Walk.{Walk}
-use Rattle.edge.specs.Walk.{extent, sign, dx, dy, steps}
+use Rattle.edge.specs.Walk.{extent, sign, dx, dy}
 use Rattle.edge.specs.Laws.StepCount.{steps_pos}
 use Rattle.edge.specs.Lemmas.Ends.{direction, direction_within}
 use Rattle.edge.specs.Octilinear.{unit_steps}

@@ -2,9 +2,8 @@
 use Rattle.std.proofs.Common.{◌≡◌, ◌*◌, ℤ, pos, ◌-ℤ◌, ◌*ℤ◌, ◌∙◌, ap, ap₂, rules, SFits, w64}
 use Rattle.std.proofs.Math.Path.{subst⁻¹}
 use Rattle.integers.specs.Units.{width_times_extent_limit}
-use Rattle.integers.specs.Within.{Within}
 use Rattle.integers.specs.Machine.{known}
-use Rattle.integers.specs.Bits.{back, result_is, fits_within}
+use Rattle.integers.specs.Bits.{back, result_is}
 use Rattle.integers.specs.Held.{Held, held_back, held_within, held_fits, held-neg}
 use Rattle.edge.specs.declared.Axis.{Axis}
 use Rattle.edge.specs.declared.Samples.{Samples}

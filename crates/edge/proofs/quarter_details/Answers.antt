@@ -1,5 +1,5 @@
 -- The details of an edge in one quarter, by the distances of its ends from the sides of that quarter.
-use Rattle.std.proofs.Common.{◌≡◌, ◌<◌, ◌+◌, ◌*◌, ◌^◌, ℕ, ℤ, pos, ◌-ℤ◌, ◌*ℤ◌, ◌≤ℤ◌, ◌<ℤ◌, neg_ℤ, sym, ◌∙◌, ap}
+use Rattle.std.proofs.Common.{◌≡◌, ◌<◌, ◌+◌, ◌*◌, ◌^◌, ℕ, ℤ, pos, ◌-ℤ◌, ◌*ℤ◌, ◌≤ℤ◌, ◌<ℤ◌, sym, ◌∙◌, ap}
 use Rattle.std.specs.Int.Signed.{mag}
 use Rattle.std.proofs.Math.Facts.{sfits_lit}
 use Rattle.integers.specs.Magnitude.{abs}
@@ -8,7 +8,7 @@ use Rattle.integers.specs.Machine.{tests}
 use Rattle.integers.specs.Bits.{back}
 use Rattle.integers.specs.Held.{Held, held_number, held_sub, held-neg, held-mul, held_fits, held_back}
 use Rattle.edge.specs.Room.{extent_limit}
-use Rattle.edge.specs.Code.{half_with, turned}
+use Rattle.edge.specs.Code.{turned}
 use Rattle.edge.specs.Lemmas.Records.{details-eq}
 use Rattle.edge.proofs.Signs.{half_first, half_second}
 use Rattle.edge.proofs.Sizes.{magnitude}

@@ -22,7 +22,6 @@ use Rattle.edge.specs.Lemmas.Records.{details-eq}
 use Rattle.edge.specs.Laws.StepCount.{rounded_whole}
 use Rattle.edge.specs.Lemmas.Ends.{beyond_start, x_end, y_end, past_scale, near_scale}
 use Rattle.edge.specs.Integrals.{along, h_num, v_num, d_num}
-use Rattle.edge.specs.declared.Details.{Details}
 use Rattle.edge.specs.Rounded.{details}
 use Rattle.edge.specs.Lemmas.Runs.{piece, LinearOn, upto, upto_zero, upto_all, linear_run}
 use Rattle.edge.specs.Lemmas.OneDirection.{ClosedRun, OneHalf, before, behind, past_linear, near_linear}

@@ -12,7 +12,7 @@ use Rattle.integers.specs.Linear.{le, lt, ◌&◌, linear, lin⊥}
 use Rattle.edge.specs.declared.Cell.{Cell}
 use Rattle.edge.specs.declared.Edge.{Edge}
 use Rattle.edge.specs.declared.Walk.{Walk}
-use Rattle.edge.specs.Walk.{dx, dy, steps, x_axis, y_axis}
+use Rattle.edge.specs.Walk.{dx, dy, x_axis, y_axis}
 use Rattle.edge.specs.Inside.{Inside}
 use Rattle.edge.specs.Lemmas.Ends.{Steady, direction, x_steady, y_steady}
 use Rattle.edge.specs.Cuts.{span}
