@@ -59,14 +59,18 @@ pub fn is_slanted(w: Walk) -> bool
     w.x.sign != 0 && w.y.sign != 0
 }
 
-// The steps inside a cell that a slanted edge lies on: all of them. `c` is for the contract alone.
+// The steps inside a cell that the edge lies on: all of them, if it is slanted.
 pub fn span_on(w: Walk, c: Cell) -> Span
-    requires { IsWalk w × Moving w.x × Moving w.y × OnCell c w.edge }
+    requires { IsWalk w × Room w.edge c × OnCell c w.edge }
     ensures { result ≡ span_of w.x w.y c w.steps }
 {
-    Span {
-        first: 0,
-        last: w.steps,
+    if is_slanted(w) {
+        Span {
+            first: 0,
+            last: w.steps,
+        }
+    } else {
+        edge::span_in(w, c)
     }
 }
 
