@@ -1,7 +1,5 @@
 -- The definitions by the half before a crossing, 0, and the one after it, as the code's test k = 0 tells them apart.
-use mathlib.Core.Path.{◌≡◌, refl, ap}
-use Prim.Native.Nat.{ℕ, zero, suc}
-use lib.IntN.{ℤ, ◌+ℤ◌, ◌-ℤ◌}
+use Rattle.std.proofs.Common.{◌≡◌, refl, ap, ℕ, zero, suc, ℤ, ◌+ℤ◌, ◌-ℤ◌}
 use Rattle.integers.specs.MinMax.{min, max}
 use Rattle.slanted.specs.Parts.{since, until, shifted}
 

@@ -1,31 +1,22 @@
--- A piece whose numbers are read back from their bits, where it is sound.
+-- The sums of a piece, of numbers that are read back from their bits, where it is sound.
 --
 -- Main results
---   x_arch_back, y_arch_back          where its sums are asked for
---   x_under-back, y_under-back,
---   turned-back                       the sums
---   x_within, y_within                how large they are
---   divisor_back, divisor_fits        the divisor
---   signed_by_eq                      three numbers with their signs
-use mathlib.Core.Path.{◌≡◌, ◌∙◌, ap, ap₂, subst⁻¹}
-use lib.IntN.{ℤ, pos}
-use lib.Signed.{◌≤ℤ◌, ◌<ℤ◌}
-use mir.Syntax.{w64}
-use mir.Val.{SFits}
-use mir.Facts.{to_z-of_z}
+--   x_sum, y_sum, turned_sum     what is answered for each sum
+--   divisor_fits, divisor_back   the divisor
+--   signed_by_eq                 three numbers with their signs
+use Rattle.std.proofs.Common.{◌≡◌, ◌∙◌, ap, ap₂, ℤ, pos, ◌≤ℤ◌, ◌<ℤ◌, w64, SFits, to_z-of_z}
+use Rattle.std.proofs.Math.Path.{subst⁻¹}
 use Rattle.integers.specs.Order.{≤ℤ_of_<ℤ}
-use Rattle.integers.specs.Within.{Within, within_le, within_self}
+use Rattle.integers.specs.Within.{within_le, within_self}
 use Rattle.integers.specs.Bits.{back, back_is, fits_within}
+use Rattle.integers.specs.Held.{Held, held_back}
 use Rattle.edge.specs.Room.{crossing_limit}
 use Rattle.slanted.specs.declared.Slope.{Slope}
 use Rattle.slanted.specs.declared.Piece.{Piece}
-use Rattle.slanted.specs.Under.{under, turned, under_limit, Arch}
+use Rattle.slanted.specs.Under.{under, turned, under_limit, sum_limit}
 use Rattle.slanted.specs.Pieces.{signed_by, Sound}
-use Rattle.slanted.specs.Laws.Sums.{under-range}
-use Rattle.slanted.proofs.SumBits.{arch_back, under_back, turned-eq}
-
-sum_within : {p m u v : ℤ} → Arch p m u v → Within (pos under_limit) (under p m u v)
-sum_within r = let k = under-range r in within_le k.1 (within_self k.0)
+use Rattle.slanted.specs.Laws.Sums.{turned-range}
+use Rattle.slanted.proofs.SumBits.{under_back, sum_within, turned-eq}
 
 module _ {l : Slope} {k : Piece} (r : Sound l k) where
   from-fits : SFits w64 k.first
@@ -34,28 +25,24 @@ module _ {l : Slope} {k : Piece} (r : Sound l k) where
   to_fits : SFits w64 k.last
   to_fits = fits_within tt r.arch_x.to
 
-  pub x_arch_back : Arch (back k.half_x) (back k.middle_x) (back k.first) (back k.last)
-  x_arch_back = arch_back (fits_within tt r.arch_x.peak) (fits_within tt r.arch_x.middle) from-fits to_fits r.arch_x
+  pub x_sum : {z : ℤ} → z ≡ under (back k.half_x) (back k.middle_x) (back k.first) (back k.last)
+      → Held under_limit (back z) (under k.half_x k.middle_x k.first k.last)
+  x_sum e =
+      held_back tt (record { is = e ∙ under_back (fits_within tt r.arch_x.peak) (fits_within tt r.arch_x.middle) from-fits to_fits; within = sum_within r.arch_x })
 
-  pub y_arch_back : Arch (back k.half_y) (back k.middle_y) (back k.first) (back k.last)
-  y_arch_back = arch_back (fits_within tt r.arch_y.peak) (fits_within tt r.arch_y.middle) from-fits to_fits r.arch_y
+  pub y_sum : {z : ℤ} → z ≡ under (back k.half_y) (back k.middle_y) (back k.first) (back k.last)
+      → Held under_limit (back z) (under k.half_y k.middle_y k.first k.last)
+  y_sum e =
+      held_back tt (record { is = e ∙ under_back (fits_within tt r.arch_y.peak) (fits_within tt r.arch_y.middle) from-fits to_fits; within = sum_within r.arch_y })
 
-  pub x_under-back : under (back k.half_x) (back k.middle_x) (back k.first) (back k.last) ≡ under k.half_x k.middle_x k.first k.last
-  x_under-back = under_back (fits_within tt r.arch_x.peak) (fits_within tt r.arch_x.middle) from-fits to_fits
-
-  pub y_under-back : under (back k.half_y) (back k.middle_y) (back k.first) (back k.last) ≡ under k.half_y k.middle_y k.first k.last
-  y_under-back = under_back (fits_within tt r.arch_y.peak) (fits_within tt r.arch_y.middle) from-fits to_fits
-
-  pub turned-back : turned (back k.half_x) (back k.middle_x) (back k.first) (back k.last) (back k.middle_y)
+  turned-back : turned (back k.half_x) (back k.middle_x) (back k.first) (back k.last) (back k.middle_y)
       ≡ turned k.half_x k.middle_x k.first k.last k.middle_y
   turned-back =
       turned-eq (back_is tt r.arch_x.peak) (back_is tt r.arch_x.middle) (to_z-of_z from-fits) (to_z-of_z to_fits) (back_is tt r.arch_y.middle)
 
-  pub x_within : Within (pos under_limit) (under k.half_x k.middle_x k.first k.last)
-  x_within = sum_within r.arch_x
-
-  pub y_within : Within (pos under_limit) (under k.half_y k.middle_y k.first k.last)
-  y_within = sum_within r.arch_y
+  pub turned_sum : {z : ℤ} → z ≡ turned (back k.half_x) (back k.middle_x) (back k.first) (back k.last) (back k.middle_y)
+      → Held sum_limit z (turned k.half_x k.middle_x k.first k.last k.middle_y)
+  turned_sum e = record { is = e ∙ turned-back; within = turned-range r.arch_x k.middle_y }
 
   pub divisor_fits : SFits w64 l.divisor
   divisor_fits = fits_within {b = crossing_limit} tt (within_le r.limit (within_self (≤ℤ_of_<ℤ r.above)))

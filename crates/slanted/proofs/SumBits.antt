@@ -2,27 +2,21 @@
 --
 -- Main results
 --   arch_back, under_back        where the sum is asked for, and the sum
+--   sum_within                   how large it is
 --   turned-eq                    the same with the sign turned, of equal numbers
 --   rounded_within               a rounded number stays within the bound
---   sign_within, sign-nonneg,
---   sign-rounded                 a number and its sign: their product is not negative, and is rounded as the number is
-use mathlib.Core.Path.{◌≡◌, sym, ◌∙◌, ap, ap₂, subst, subst⁻¹}
-use mathlib.Core.List.{[], ◌∷◌}
-use Prim.Native.Nat.{ℕ}
-use lib.Dec.{ltb→lt}
-use lib.IntN.{ℤ, pos, negsuc, neg_ℤ, nat_abs, ◌*ℤ◌}
-use lib.Signed.{◌≤ℤ◌, ◌<ℤ◌}
-use mir.Syntax.{w64}
-use mir.Val.{SFits}
-use mir.Facts.{to_z-of_z}
+--   sign_within, sign-rounded    a number's sign, and their product, which is rounded as the number is
+use Rattle.std.proofs.Common.{◌≡◌, sym, ◌∙◌, ap, ap₂, subst, [], ◌∷◌, ℕ, ℤ, pos, negsuc, neg_ℤ, nat_abs, ◌*ℤ◌, ◌<ℤ◌, ltb→lt, w64, SFits, to_z-of_z}
+use Rattle.std.proofs.Math.Path.{subst⁻¹}
 use Rattle.integers.specs.Ring.{read, ring}
 use Rattle.integers.specs.Order.{add_one_≤ℤ, nonneg, ≤ℤ-mul}
-use Rattle.integers.specs.Linear.{le, lt, ◌&◌, none!, linear, lin≤}
-use Rattle.integers.specs.Within.{Within}
+use Rattle.integers.specs.Linear.{le, ◌&◌, none!, linear, lin≤}
+use Rattle.integers.specs.Within.{Within, within_le, within_self}
 use Rattle.integers.specs.Bits.{back}
 use Rattle.integers.specs.Rounding.{round_half_away}
 use Rattle.integers.specs.RoundHalfAway.{round_half_away_within}
-use Rattle.slanted.specs.Under.{under, turned, Arch, Turns, stays, turns}
+use Rattle.slanted.specs.Under.{under, turned, under_limit, Arch, Turns, stays, turns}
+use Rattle.slanted.specs.Laws.Sums.{under-range}
 use Rattle.slanted.specs.Laws.PieceDetails.{rounded-neg}
 
 module _ {p m u v : ℤ} (i : SFits w64 p) (j : SFits w64 m) (k : SFits w64 u) (l : SFits w64 v) where
@@ -33,6 +27,9 @@ module _ {p m u v : ℤ} (i : SFits w64 p) (j : SFits w64 m) (k : SFits w64 u) (
 
   pub under_back : under (back p) (back m) (back u) (back v) ≡ under p m u v
   under_back = ap₂ (λ x y. under x y (back u) (back v)) (to_z-of_z i) (to_z-of_z j) ∙ ap₂ (under p m) (to_z-of_z k) (to_z-of_z l)
+
+pub sum_within : {p m u v : ℤ} → Arch p m u v → Within (pos under_limit) (under p m u v)
+sum_within r = let k = under-range r in within_le k.1 (within_self k.0)
 
 pub turned-eq : {p p' m m' u u' v v' y y' : ℤ} → p ≡ p' → m ≡ m' → u ≡ u' → v ≡ v' → y ≡ y' → turned p m u v y ≡ turned p' m' u' v' y'
 turned-eq {p} {p'} {m} {m'} {u} {u'} {v} {v'} {y} {y'} i j k l o =
@@ -51,10 +48,6 @@ rounded_within {b} {z} (pos n) h w =
 pub sign_within : {m s : ℤ} → Turns m s → Within (pos 1) s
 sign_within (stays h e) = subst⁻¹ (Within (pos 1)) e (record { low = lin≤ [] none! (search linear depth 40) tt; high = lin≤ [] none! (search linear depth 40) tt })
 sign_within (turns h e) = subst⁻¹ (Within (pos 1)) e (record { low = lin≤ [] none! (search linear depth 40) tt; high = lin≤ [] none! (search linear depth 40) tt })
-
-pub sign-nonneg : {m s : ℤ} → Turns m s → pos 0 ≤ℤ (s *ℤ m)
-sign-nonneg {m} (stays h e) = subst⁻¹ (λ s. pos 0 ≤ℤ (s *ℤ m)) e (lin≤ (m ∷ []) (le h) (search linear depth 40) tt)
-sign-nonneg {m} (turns h e) = subst⁻¹ (λ s. pos 0 ≤ℤ (s *ℤ m)) e (lin≤ (m ∷ []) (lt h) (search linear depth 40) tt)
 
 pub sign-rounded : {m s n : ℤ} → Turns m s → pos 0 <ℤ n → s *ℤ round_half_away (s *ℤ m) (nat_abs n) ≡ round_half_away m (nat_abs n)
 sign-rounded {m} {s} {n} (stays h e) k =

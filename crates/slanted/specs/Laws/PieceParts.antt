@@ -10,7 +10,7 @@
 --   CutAt, cut_x, cut_y       so in both directions at once: one more comparison
 --   piece_eq                  the six numbers equal
 --   piece_part                all six numbers
-use Rattle.std.specs.Prelude.{◌≡◌, refl, [], ◌∷◌, ℕ, zero, suc, ◌-◌, ◌/◌, ◌%◌, ◌<◌, ℤ, pos, negsuc, neg_ℤ, ◌+ℤ◌, ◌-ℤ◌, ◌*ℤ◌, ◌≤ℤ◌}
+use Rattle.std.specs.Prelude.{◌≡◌, refl, [], ◌∷◌, ℕ, zero, suc, ◌/◌, ◌%◌, ◌<◌, ℤ, pos, negsuc, neg_ℤ, ◌+ℤ◌, ◌-ℤ◌, ◌*ℤ◌, ◌≤ℤ◌}
 use Rattle.std.proofs.Common.{sym, ◌∙◌, ap, ap₂, subst₂, arith}
 use Rattle.integers.specs.Ring.{read, ring, comb, ◌⊕◌, ◌⊗◌}
 use Rattle.integers.specs.Order.{≤ℤ_trans, ≤ℤ_antisym, ≤ℤ-mul-nonneg}

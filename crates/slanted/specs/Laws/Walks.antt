@@ -16,7 +16,7 @@ use Rattle.edge.specs.declared.Axis.{Axis}
 use Rattle.edge.specs.declared.Cell.{Cell}
 use Rattle.edge.specs.declared.Edge.{Edge}
 use Rattle.edge.specs.declared.Walk.{Walk}
-use Rattle.edge.specs.Walk.{extent, sign, dx, dy, ax, ay, steps}
+use Rattle.edge.specs.Walk.{extent, dx, dy, ax, ay, steps}
 use Rattle.edge.specs.Octilinear.{unit_steps}
 use Rattle.edge.specs.Room.{coordinate_limit, extent_limit, crossing_limit, Room}
 use Rattle.edge.specs.Code.{AxisRoom}

@@ -1,0 +1,19 @@
+-- The larger of two numbers.
+use Rattle.std.proofs.Common.{sym, ◌≤ℤ◌}
+use Rattle.integers.specs.Machine.{known, tests}
+use Rattle.integers.specs.MinMax.{max_eqˡ, max_eqʳ}
+use Rattle.slanted.proofs.high.Goals as goal
+
+pub returns-then-a-b : goal.returns-then-a-b
+returns-then-a-b c =
+    let i = c.ranges.a in
+    let j = c.ranges.b in
+    let k : c.args.a ≤ℤ c.args.b = search tests in
+    known j (sym (max_eqʳ k))
+
+pub returns-else-a-b : goal.returns-else-a-b
+returns-else-a-b c =
+    let i = c.ranges.a in
+    let j = c.ranges.b in
+    let k : c.args.b ≤ℤ c.args.a = search tests in
+    known i (sym (max_eqˡ k))
