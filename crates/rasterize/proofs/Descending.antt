@@ -1,18 +1,16 @@
 -- The way down to the smallest cell that the edge lies in.
 --
 -- Main results
---   descent_start, descent_step          at the first cell; from a cell to the quarter that the edge lies in
+--   descent_step                         from a cell to the quarter that the edge lies in
 --   descent_ready, descent_rest          what adding a cell's own details asks for, and what the recursion does
---   descent_length                       the table is as long as it was
---   OnWay, way_start, way_step           the same as the loop has it, by stages
+--   OnWay, way_step                      the same as the loop has it, by stages
 --   way_room, way_ready, way_details,
---   way_first, way_node                  what its calls ask for, and what they answer
+--   way_first                            what its calls ask for, and what they answer
 --   descent_end, descent_last            the edge has been added: when the recursion has added the rest, and where there are no levels left
 use mathlib.Core.Path.{◌≡◌, refl, sym, ◌∙◌, ap, subst, subst⁻¹}
-use mathlib.Core.List.{List, [], ◌∷◌}
-use Prim.Native.Nat.{ℕ, zero, suc, ◌+◌, ◌*◌, ◌/◌, ◌%◌, ◌-◌, ◌<◌, ◌≤◌}
+use mathlib.Core.List.{List}
+use Prim.Native.Nat.{ℕ, suc, ◌+◌, ◌*◌, ◌/◌, ◌%◌, ◌-◌, ◌<◌, ◌≤◌}
 use native.Mathlib.Omega.{arith}
-use lib.ListN.{length}
 use lib.IntN.{ℤ, pos, nat_abs}
 use lib.Signed.{◌≤ℤ◌}
 use Rattle.integers.specs.Magnitude.{abs}
@@ -26,26 +24,21 @@ use Rattle.edge.specs.Laws.Cells.{half_below, quarter_on}
 use Rattle.edge.specs.Laws.InQuarter.{in_quarter}
 use Rattle.haar.specs.Table.{index}
 use Rattle.haar.specs.Plane.{dimensions, h_detail, at}
-use Rattle.accuracy.specs.Tile.{tile}
-use Rattle.accuracy.specs.Laws.Squares.{square-tile}
 use Rattle.rasterize.specs.declared.Stage.{Stage}
-use Rattle.rasterize.specs.Stages.{stage_at, quarter_stage, stage_node, StageRoom, StageOf}
+use Rattle.rasterize.specs.Stages.{stage_at, quarter_stage, StageRoom, StageOf}
 use Rattle.rasterize.specs.declared.Node.{Node}
 use Rattle.rasterize.specs.Added.{added}
-use Rattle.rasterize.specs.Nodes.{quarters, half_width, quarter_node, node_at}
+use Rattle.rasterize.specs.Nodes.{quarters, half_width, quarter_node}
 use Rattle.rasterize.specs.Contribution.{first_detail, own_part, contribution}
 use Rattle.rasterize.specs.Ready.{Ready, Descent}
-use Rattle.rasterize.specs.Laws.Adding.{added-length, added-both, added_none}
+use Rattle.rasterize.specs.Laws.Adding.{added-both, added_none}
 use Rattle.rasterize.specs.Laws.Nodes.{quarter_node_at}
 use Rattle.rasterize.specs.Laws.OnSheet.{half≥0, twice}
-use Rattle.rasterize.specs.Laws.Stages.{quarter_with, stage_quarter, stage_node_lem, stage_room}
+use Rattle.rasterize.specs.Laws.Stages.{quarter_with, stage_quarter, stage_room}
 use Rattle.rasterize.specs.Laws.Spare.{spare_le}
 use Rattle.rasterize.specs.Laws.Contributions.{contribution-zero, contribution-quarter}
 use Rattle.rasterize.specs.Laws.ReadyCells.{ready-suc, ready-quarter}
 use Rattle.rasterize.proofs.QuarterLoop.{OwnAdded, own_added, own_length, own_spare}
-
-pub descent_start : {e : Edge} {all : ℕ} {before : List ℤ} {start : Node} → Ready before e all start → OnCell start.square e → Descent e start all before start before
-descent_start {all = all} r o = record { left = all; levels = refl; ready = r; on = o; rest = refl }
 
 -- quarter x + 2 y is the one in half x from the left and in half y from the top
 numbered_on : {e : Edge} (c : Node) (x y : ℕ) → x < 2 → OnCell (quarter c.square (half_width c.square) x y) e → OnCell (quarter_node c (x + 2 * y)).square e
@@ -56,11 +49,6 @@ numbered_on {e} c x y h o =
     (subst (λ a. OnCell (quarter c.square (half_width c.square) a y) e) column o)
 
 module _ {e : Edge} {start : Node} {all : ℕ} {before : List ℤ} {c : Node} {table : List ℤ} (d : Descent e start all before c table) where
-  pub descent_length : length table ≡ length before
-  descent_length =
-      sym (added-length table (contribution e d.left c)) ∙ ap length d.rest
-      ∙ added-length before (contribution e all start)
-
   -- what the recursion asks for there; `depth` is the level below the last
   module _ {depth : ℕ} (bottom : depth ≡ start.level + all) where
     pub descent_rest : Ready table e (depth - c.level) c
@@ -112,16 +100,9 @@ pub record OnWay (e : Edge) (start : Node) (all : ℕ) (before : List ℤ) (p : 
   pub stage : StageOf e (start.level + all) p cell
   pub descent : Descent e start all before cell table
 
-pub way_start : {e : Edge} {all : ℕ} {before : List ℤ} {p : Stage} {start : Node} → Ready before e all start → StageOf e (start.level + all) p start
-    → OnWay e start all before p before
-way_start {start = start} r o = record { cell = start; stage = o; descent = descent_start r o.on }
-
 module _ {e : Edge} {start : Node} {all : ℕ} {before : List ℤ} {p : Stage} {table : List ℤ} (o : OnWay e start all before p table) where
   pub way_room : StageRoom p
   way_room = subst⁻¹ StageRoom o.stage.is (stage_room o.descent.ready o.descent.on)
-
-  pub way_node : {c : Node} → c ≡ stage_node p → Descent e start all before c table
-  way_node k = subst⁻¹ (λ c. Descent e start all before c table) (k ∙ ap stage_node o.stage.is ∙ stage_node_lem e (start.level + all) o.stage.of_tile) o.descent
 
   -- ---- a cell that has quarters, in one of which the edge lies
   module _ (h : p.level < start.level + all) (l : (abs (dx e) ≤ℤ abs p.left) × (abs (dy e) ≤ℤ abs p.above)) where

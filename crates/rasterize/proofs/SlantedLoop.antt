@@ -8,12 +8,10 @@
 --   slanted_start, slanted_step, slanted_skip    before the first quarter; to the next, when one had the edge or was passed over
 --   slanted_asks                                 what the call for a quarter asks for
 --   slanted_end, slanted_last                    the cell has added all of the edge: after the fourth quarter, and on the last level
-use mathlib.Core.Path.{◌≡◌, refl, sym, ◌∙◌, ap, ap₂, subst, subst⁻¹}
+use mathlib.Core.Path.{◌≡◌, refl, sym, ◌∙◌, ap}
 use mathlib.Core.List.{List, [], ◌∷◌}
-use Prim.Native.Nat.{ℕ, suc, ◌+◌, ◌*◌, ◌-◌, ◌/◌, ◌%◌, ◌<◌, ◌≤◌}
-use native.Mathlib.Omega.{arith}
-use lib.ListN.{length}
-use lib.IntN.{ℤ, pos, negsuc, ◌+ℤ◌, ◌*ℤ◌}
+use Prim.Native.Nat.{ℕ, suc, ◌+◌, ◌*◌, ◌/◌, ◌%◌, ◌<◌, ◌≤◌}
+use lib.IntN.{ℤ, pos, negsuc, ◌+ℤ◌}
 use lib.Signed.{◌≤ℤ◌, ◌<ℤ◌}
 use Rattle.integers.specs.Ring.{read, ring}
 use Rattle.integers.specs.RangeSum.{Σ<, Σ-zero, Σ-suc}
@@ -27,13 +25,13 @@ use Rattle.slanted.specs.Parts.{half_on, IsPart}
 use Rattle.rasterize.specs.declared.Spot.{Spot}
 use Rattle.rasterize.specs.Added.{added}
 use Rattle.rasterize.specs.Nodes.{quarters, quarter_node}
-use Rattle.rasterize.specs.Contribution.{first_detail, own_part, contribution}
-use Rattle.rasterize.specs.Ready.{OnSheet, Ready}
+use Rattle.rasterize.specs.Contribution.{first_detail, own_part}
+use Rattle.rasterize.specs.Ready.{OnSheet}
 use Rattle.rasterize.specs.Slanted.{node_on, Slants, quarter_on_way, quarter_spot, SlantedReady, SlantedAdds}
 use Rattle.rasterize.specs.Laws.OnSheet.{quarter_on_sheet}
 use Rattle.rasterize.specs.Laws.SlantedCells.{way_below, slants_details, slants_quarter, slants_outside}
-use Rattle.rasterize.proofs.QuarterLoop.{Order, OwnAdded, QuarterLoop, own_added, own_length, own_end}
-use Rattle.rasterize.proofs.QuarterLoop.{quarters_start, quarters_asks, quarters-step, quarters-skip, quarters-length, quarters_end}
+use Rattle.rasterize.proofs.QuarterLoop.{Order, OwnAdded, QuarterLoop, own_added, own_end}
+use Rattle.rasterize.proofs.QuarterLoop.{quarters_start, quarters_asks, quarters-step, quarters-skip, quarters_end}
 
 -- ---- the order
 four : (f : ℕ → ℤ) → Σ< 4 f ≡ f 0 +ℤ f 1 +ℤ f 2 +ℤ f 3

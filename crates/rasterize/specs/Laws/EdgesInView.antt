@@ -3,7 +3,7 @@
 -- Main results
 --   in_view_alone                an edge on the tile is in view of a tile alone
 --   in_view_from                 an edge on a sheet is in view of each of the sheet's tiles
-use Rattle.std.specs.Prelude.{◌≡◌, [], ◌∷◌, ℕ, ◌+◌, ◌*◌, ◌-◌, ◌^◌, ◌≤◌, ℤ, pos, ◌*ℤ◌, ◌≤ℤ◌}
+use Rattle.std.specs.Prelude.{◌≡◌, ℕ, ◌+◌, ◌*◌, ◌-◌, ◌^◌, ◌≤◌, pos, ◌*ℤ◌, ◌≤ℤ◌}
 use Rattle.std.proofs.Common.{◌∙◌, ap, arith, mul-le-mul}
 use Rattle.std.proofs.Math.Path.{subst⁻¹}
 use Rattle.std.proofs.Math.Nat.{one-le-pow}
@@ -15,13 +15,11 @@ use Rattle.edge.specs.declared.Cell.{Cell as Square}
 use Rattle.edge.specs.Room.{coordinate_limit}
 use Rattle.edge.specs.Nested.{Contains, Sheet, OnCell}
 use Rattle.edge.specs.Laws.Cells.{contains_refl}
-use Rattle.haar.specs.Plane.{at}
-use Rattle.accuracy.specs.Tile.{cell_width, square, tile, EdgeOnTile}
+use Rattle.accuracy.specs.Tile.{cell_width, tile, EdgeOnTile}
 use Rattle.accuracy.specs.Laws.OnTile.{on_cell}
 use Rattle.accuracy.specs.Laws.Squares.{square-tile}
 use Rattle.accuracy.specs.Laws.EntryBounds.{tile_width_le, edge_on_tile_small, edge_on_sheet_small, sheet_times_tile}
 use Rattle.rasterize.specs.declared.Corner.{Corner}
-use Rattle.rasterize.specs.declared.View.{View}
 use Rattle.rasterize.specs.declared.View.TheVariants.{Alone, From}
 use Rattle.rasterize.specs.Nodes.{node_at}
 use Rattle.rasterize.specs.Ready.{OnSheet}

@@ -6,15 +6,12 @@
 --   way_below                        a quarter on the way is one of the four
 --   slants_quarter                   a part of the piece is the piece in the quarter on the way
 --   slants_outside                   no part of the edge lies inside a square whose piece is empty
-use Rattle.std.specs.Prelude.{◌≡◌, ℕ, suc, ◌+◌, ◌*◌, ◌-◌, ◌/◌, ◌%◌, ◌<◌, ◌≤◌, ◌≤ℤ◌, ◌<ℤ◌, [], ◌∷◌}
+use Rattle.std.specs.Prelude.{◌≡◌, ℕ, suc, ◌/◌, ◌%◌, ◌<◌, ◌≤ℤ◌, ◌<ℤ◌, [], ◌∷◌}
 use Rattle.std.proofs.Common.{sym, ◌∙◌, ap, ap₂, subst, arith}
 use Rattle.std.proofs.Math.Path.{subst⁻¹}
 use Rattle.integers.specs.Linear.{le, lt, ◌&◌, linear, lin⊥}
-use Rattle.edge.specs.declared.Edge.{Edge}
 use Rattle.edge.specs.declared.Cell.{Cell as Square}
-use Rattle.edge.specs.declared.Span.{Span}
 use Rattle.edge.specs.declared.Walk.{Walk}
-use Rattle.edge.specs.Cuts.{span}
 use Rattle.edge.specs.Inside.{Inside}
 use Rattle.edge.specs.Room.{Even}
 use Rattle.edge.specs.Rounded.{details}
@@ -27,7 +24,6 @@ use Rattle.slanted.specs.Parts.{half_on, IsPart}
 use Rattle.slanted.specs.Laws.PieceSound.{piece_sound, piece_even}
 use Rattle.slanted.specs.Laws.PieceDetails.{piece-details}
 use Rattle.slanted.specs.Laws.PieceParts.{half_on_below, piece_part}
-use Rattle.rasterize.specs.declared.Node.{Node}
 use Rattle.rasterize.specs.declared.Spot.{Spot}
 use Rattle.rasterize.specs.Nodes.{quarters, half_width, quarter_node}
 use Rattle.rasterize.specs.Ready.{OnSheet}
