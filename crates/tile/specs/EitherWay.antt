@@ -61,7 +61,7 @@ use Rattle.tile.specs.Faithful.{figure_num}
 use Rattle.tile.specs.PlacedOutline.{placed_number}
 use Rattle.tile.specs.Letters.{letter_a, counts as one_count}
 use Rattle.tile.specs.Laws.IfDone.{if_done_lem}
-use Rattle.tile.specs.Laws.Accepted.{accepted, placed-accepted}
+use Rattle.tile.specs.Laws.Accepted.{placed-accepted}
 use Rattle.tile.specs.Laws.BuiltTable.{built_is}
 use Rattle.tile.specs.Laws.Written.{coordinates-back}
 use Rattle.tile.specs.Laws.ReversedContours.{back-every}

@@ -15,9 +15,9 @@ returns c =
     let counts = s.args.counts.now in
     let table = s.args.table.now in
     let same = placed_none_as_built side points counts table in
-    let placed = c.before.build-placed.ensures in
+    let placed = c.before.build_placed.ensures in
     let left = placed.1.0 ∙ same.1 in
     (placed.0 ∙ same.0, (left, (subst⁻¹ (Faithful side points counts table) left (faithful side points counts table), (refl, refl))))
 
-pub build-spec : {M : Type 1} → statement M
-build-spec = tie.close (tie.spec (λ c κs. search rules) (λ c. search rules) returns)
+pub build_spec : {M : Type 1} → statement M
+build_spec = tie.close (tie.spec (λ c κs. search rules) (λ c. search rules) returns)

@@ -66,39 +66,39 @@ module _ (s : tie.Start) where
   kept nonzero = sym (if_refused _ s.args.table.now nonzero)
 
 -- ---- a question about the tile is answered no
-returns : tie.Need-returns
+returns : tie.Need-returns-then-refusal-ne-DONE
 returns c =
-    let s = c.before.before.before.before in
-    let e = c.before.tile-refusal.ensures.0 in
-    let n = e ∙ first_refused (first s) (rest s) (λ z. c.if1.true (e ∙ z)) ∙ asked_is s in
-    let no : number s ≢ 0 = λ z. c.if1.true (n ∙ z) in
+    let s = c.before.before.before in
+    let e = c.before.tile_refusal-refusal.ensures.0 in
+    let n = e ∙ first_refused (first s) (rest s) (λ z. c.if-refusal-ne-DONE.true (e ∙ z)) ∙ asked_is s in
+    let no : number s ≢ 0 = λ z. c.if-refusal-ne-DONE.true (n ∙ z) in
     (ap₂ answer n (sym (if_refused _ 0 no)), (kept s no, (is_faithful s (kept s no), (refl, refl))))
 
 -- ---- one about the outline
-module _ (c : tie.After-outline-refusal) where
+module _ (c : tie.After-outline_refusal-number) where
   abbrev start : tie.Start
-  start = c.before.before.before.before.before
+  start = c.before.before.before.before
 
-  asked : c.outline-refusal.result ≡ number start
+  asked : c.outline_refusal-number.result ≡ number start
   asked =
-      c.outline-refusal.ensures.0
-      ∙ sym (first_passed (first start) (rest start) ((first_no-zero (first start) tt).0 (sym c.before.before.tile-refusal.ensures.0 ∙ c.before.if1.false)))
+      c.outline_refusal-number.ensures.0
+      ∙ sym (first_passed (first start) (rest start) ((first_no-zero (first start) tt).0 (sym c.before.before.tile_refusal-refusal.ensures.0 ∙ c.before.if-refusal-ne-DONE.false)))
       ∙ asked_is start
 
-returns-2 : tie.Need-returns-2
+returns-2 : tie.Need-returns-then-number-ne-DONE
 returns-2 c =
     let s = start c.before in
     let n = asked c.before in
-    let no : number s ≢ 0 = λ z. c.if2.true (n ∙ z) in
+    let no : number s ≢ 0 = λ z. c.if-number-ne-DONE.true (n ∙ z) in
     (ap₂ answer n (sym (if_refused _ 0 no)), (kept s no, (is_faithful s (kept s no), (refl, refl))))
 
 -- ---- none: the outline goes into a cleared table
-module _ (c : tie.Else2) where
+module _ (c : tie.Else-number-ne-DONE) where
   abbrev entry : tie.Start
   entry = start c.before
 
   done : number entry ≡ 0
-  done = sym (asked c.before) ∙ c.if2.false
+  done = sym (asked c.before) ∙ c.if-number-ne-DONE.false
 
   is-accepted : Accepted entry.args.side (placed entry.args.placement entry.args.points.now) entry.args.counts.now entry.args.table.now
   is-accepted = placed-accepted entry.args.side entry.args.points.now entry.args.counts.now entry.args.placement entry.args.table.now done
@@ -111,13 +111,13 @@ module _ (c : tie.Else2) where
       (outline_on_tile (depth_of entry.args.side) cs
       (contours_of_on_tile (depth_of entry.args.side) entry.args.counts.now (placed entry.args.placement entry.args.points.now) is-accepted.on_tile)).on_tile
 
-add-outline-requires : tie.Need-add-outline-requires
+add-outline-requires : tie.Need-add_outline-requires
 add-outline-requires c κs =
     let z = c.before.before.before in
     let e = z.before.before in
     let s = entry e in
     let a = is-accepted e in
-    let d = c.depth-of.ensures in
+    let d = c.depth_of.ensures in
     let yes = (placed_refusals s.args.side s.args.points.now s.args.counts.now s.args.placement s.args.table.now).accepted.0 (done e) in (
       cleared_fits s.args.side s.args.table.now a.is_side a.table_length_lem z.clear.ensures d (edge_count s.args.counts.now) a.few_edges,
       omega (arith, a.points_length, placed-length s.args.placement s.args.points.now),
@@ -127,37 +127,37 @@ add-outline-requires c κs =
     )
 
 -- when all edges are in and counted
-module _ (c : tie.After-edges-of) where
-  abbrev added-all : tie.After-add-outline
+module _ (c : tie.After-edges_of) where
+  abbrev added-all : tie.After-add_outline
   added-all = c.before.before
 
   abbrev cleared : tie.After-clear
   cleared = added-all.before.before.before.before
 
-  abbrev accepted-at : tie.Else2
+  abbrev accepted-at : tie.Else-number-ne-DONE
   accepted-at = cleared.before.before
 
-  counted : c.edges-of.result ≡ edge_count (entry accepted-at).args.counts.now
-  counted = c.edges-of.ensures.0 ∙ capped_within (entry accepted-at).args.counts.now (is-accepted accepted-at).few_edges
+  counted : c.edges_of.result ≡ edge_count (entry accepted-at).args.counts.now
+  counted = c.edges_of.ensures.0 ∙ capped_within (entry accepted-at).args.counts.now (is-accepted accepted-at).few_edges
 
-  left_there : added-all.add-outline.last.0 ≡ outcome (entry accepted-at)
+  left_there : added-all.add_outline.new.table ≡ outcome (entry accepted-at)
   left_there =
       let s = entry accepted-at in
       let a = is-accepted accepted-at in
-      cleared_built s.args.side s.args.table.now a.is_side a.table_length_lem cleared.clear.ensures added-all.before.depth-of.ensures Alone
-      (edges_of (placed s.args.placement s.args.points.now) s.args.counts.now) added-all.add-outline.ensures
+      cleared_built s.args.side s.args.table.now a.is_side a.table_length_lem cleared.clear.ensures added-all.before.depth_of.ensures Alone
+      (edges_of (placed s.args.placement s.args.points.now) s.args.counts.now) added-all.add_outline.ensures
       ∙ sym (if_done_lem _ s.args.table.now (done accepted-at))
 
-cast-t18 : tie.Need-overflow-cast-t18
+cast-t18 : tie.Need-overflow_cast-result
 cast-t18 c = record { fits = omega (arith, counted c, (is-accepted (accepted-at c)).few_edges) }
 
-returns-3 : tie.Need-returns-3
+returns-3 : tie.Need-returns
 returns-3 c =
     let s = entry (accepted-at c) in
     (ap₂ answer (sym (done (accepted-at c))) (counted c ∙ sym (if_done_lem _ 0 (done (accepted-at c)))), (left_there c, (is_faithful s (left_there c), (refl, refl))))
 
-pub build-placed-spec : {M : Type 1} → statement M
-build-placed-spec =
+pub build_placed_spec : {M : Type 1} → statement M
+build_placed_spec =
     tie.close
     (tie.spec
     (λ c κs. search rules)

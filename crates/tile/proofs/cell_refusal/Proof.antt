@@ -2,6 +2,7 @@
 use mathlib.Core.Path.{sym}
 use mathlib.Core.List.{List, [], ◌∷◌, ◌++◌}
 use borrow.Author.Rules.{rules}
+use borrow.Author.Tests.{not-true, not-false}
 use Rattle.tile.specs.Questions.{Question, question10, question9}
 use Rattle.tile.specs.Inner.{level_questions}
 use Rattle.tile.specs.Laws.Asking.{After, refused, passed}
@@ -15,34 +16,34 @@ rest s = question10 s.args.level s.args.cx s.args.cy ∷ question9 s.args.table.
 abbrev questions : tie.Start → List Question
 questions s = level_questions s.args.side s.args.level s.args.table.now ++ rest s
 
-returns : tie.Need-returns
+returns : tie.Need-returns-then-number-ne-DONE
 returns c =
     let s = c.before.before in
-    level_refused s.args.side s.args.level s.args.table.now c.before.level-refusal.ensures (rest s) c.if1.true
+    level_refused s.args.side s.args.level s.args.table.now c.before.level_refusal-number.ensures (rest s) c.if-number-ne-DONE.true
 
-after-3 : (c : tie.Else1) → After (questions c.before.before) 3
+after-3 : (c : tie.Else-number-ne-DONE) → After (questions c.before.before) 3
 after-3 c =
     let s = c.before.before in
-    level_passed s.args.side s.args.level s.args.table.now c.before.level-refusal.ensures (rest s) c.if1.false
+    level_passed s.args.side s.args.level s.args.table.now c.before.level_refusal-number.ensures (rest s) c.if-number-ne-DONE.false
 
-is-cell-requires : tie.Need-is-cell-requires
+is-cell-requires : tie.Need-is_cell-requires
 is-cell-requires c κs =
     let s = c.before.before in
-    level_shallow s.args.side s.args.level s.args.table.now c.before.level-refusal.ensures c.if1.false
+    level_shallow s.args.side s.args.level s.args.table.now c.before.level_refusal-number.ensures c.if-number-ne-DONE.false
 
-returns-2 : tie.Need-returns-2
-returns-2 c = refused (after-3 c.before.before) c.before.is-cell.ensures c.if2.true
+returns-2 : tie.Need-returns-then-not-is_cell
+returns-2 c = refused (after-3 c.before.before) c.before.is_cell.ensures c.if-not-is_cell.true
 
-after-4 : (c : tie.Else2) → After (questions c.before.before.before.before) 4
-after-4 c = passed (after-3 c.before.before) c.before.is-cell.ensures c.if2.false
+after-4 : (c : tie.Else-not-is_cell) → After (questions c.before.before.before.before) 4
+after-4 c = passed (after-3 c.before.before) c.before.is_cell.ensures c.if-not-is_cell.false
 
-returns-3 : tie.Need-returns-3
-returns-3 c = refused (after-4 c.before.before.before) c.before.before.search-entries.ensures.0 c.if3.true
+returns-3 : tie.Need-returns-then-not-search_entries
+returns-3 c = refused (after-4 c.before.before.before) c.before.before.search_entries.ensures.0 (not-true _ c.if-not-search_entries.true)
 
-returns-4 : tie.Need-returns-4
-returns-4 c = sym (passed (after-4 c.before.before.before) c.before.before.search-entries.ensures.0 c.if3.false).same
+returns-4 : tie.Need-returns
+returns-4 c = sym (passed (after-4 c.before.before.before) c.before.before.search_entries.ensures.0 (not-false _ c.if-not-search_entries.false)).same
 
-pub cell-refusal-spec : {M : Type 1} → statement M
-cell-refusal-spec =
+pub cell_refusal_spec : {M : Type 1} → statement M
+cell_refusal_spec =
     tie.close
     (tie.spec (λ c κs. search rules) returns is-cell-requires returns-2 (λ c κs. search rules) returns-3 returns-4)

@@ -35,39 +35,39 @@ cleared-end {n} {table} s =
     ext_get_or (pos 0) table (replicate n (pos 0)) (s.same_length ∙ sym (length-replicate n (pos 0)))
     (λ j h. let k : j < n = omega (arith, s.same_length) in s.cleared j k ∙ sym (get_or-replicate n j (pos 0) (pos 0) k))
 
-abbrev invariant-loop : tie.invariant-loop
+abbrev invariant-loop : tie.invariant-loop-i
 invariant-loop table₀ i₀ i-end table i = Cleared (length table₀) table i
 
-abbrev decreases-loop : tie.decreases-loop
+abbrev decreases-loop : tie.decreases-loop-i
 decreases-loop table₀ i₀ i-end table i = length table₀ - i
 
-loop-holds : tie.Need-loop-init invariant-loop decreases-loop
+loop-holds : tie.Need-loop-i-init invariant-loop decreases-loop
 loop-holds c = record { same_length = refl; no_further = omega arith; cleared = λ j h. absurd (omega arith) }
 
-mul-table : tie.Need-overflow-mul-table invariant-loop decreases-loop
+mul-table : tie.Need-offset_bounds-table-i invariant-loop decreases-loop
 mul-table c = search rules
 
-slice-set-of-table : tie.Need-slice-set-of-table invariant-loop decreases-loop
-slice-set-of-table c = omega (arith, c.before.loop.invariant.same_length, c.loop-test.true)
+slice-set-of-table : tie.Need-slice_set_of-table invariant-loop decreases-loop
+slice-set-of-table c = omega (arith, c.before.loop-i.invariant.same_length, c.loop-i-test.true)
 
-add-i : tie.Need-overflow-add-i invariant-loop decreases-loop
+add-i : tie.Need-overflow_step-i invariant-loop decreases-loop
 add-i c = search rules
 
-loop-less : tie.Need-loop-smaller invariant-loop decreases-loop
+loop-less : tie.Need-loop-i-smaller invariant-loop decreases-loop
 loop-less c = search rules
 
-loop-again : tie.Need-loop-preserved invariant-loop decreases-loop
-loop-again c = cleared-step c.before.loop.invariant c.loop-test.true
+loop-again : tie.Need-loop-i-preserved invariant-loop decreases-loop
+loop-again c = cleared-step c.before.loop-i.invariant c.loop-i-test.true
 
-same_length : tie.Need-same-length invariant-loop decreases-loop
-same_length c = c.before.loop.invariant.same_length
+same_length : tie.Need-shape_of-table invariant-loop decreases-loop
+same_length c = c.before.loop-i.invariant.same_length
 
 returns : tie.Need-returns invariant-loop decreases-loop
 returns c =
-    let s = c.before.loop.invariant in
+    let s = c.before.loop-i.invariant in
     let n = length c.before.before.args.table.now in
-    let e : c.before.loop.i ≡ n = omega (arith, s.no_further, c.loop-test.false) in
-    cleared-end (subst (λ i. Cleared n c.before.loop.table i) e s)
+    let e : c.before.loop-i.i ≡ n = omega (arith, s.no_further, c.loop-i-test.false) in
+    cleared-end (subst (λ i. Cleared n c.before.loop-i.table i) e s)
 
 pub clear_spec : {M : Type 1} → statement M
 clear_spec =

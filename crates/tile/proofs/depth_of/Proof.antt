@@ -5,8 +5,8 @@ use borrow.Author.Rules.{rules}
 use Rattle.tile.proofs.depth_of.Statement.{statement}
 use Rattle.tile.proofs.depth_of.Tie as tie
 
-cast-result : tie.Need-overflow-cast-result
+cast-result : tie.Need-overflow_cast-result
 cast-result c = record { fits = omega (arith, trailing_le 32 c.args.side) }
 
-pub depth-of-spec : {M : Type 1} → statement M
-depth-of-spec = tie.close (tie.spec cast-result (λ c. search rules))
+pub depth_of_spec : {M : Type 1} → statement M
+depth_of_spec = tie.close (tie.spec cast-result (λ c. search rules))

@@ -8,27 +8,27 @@ use Rattle.tile.specs.Laws.Answers.{drawable-picture}
 use Rattle.tile.proofs.figures.Statement.{statement}
 use Rattle.tile.proofs.figures.Tie as tie
 
-accepted : (c : tie.Then1)
+accepted : (c : tie.Then-number-eq-DONE)
     → (let a = c.before.before.args in draw_refusal a.side a.level a.table.now (length a.picture.now) ≡ 0)
-accepted c = sym c.before.draw-refusal.ensures ∙ c.if1.true
+accepted c = sym c.before.draw_refusal-number.ensures ∙ c.if-number-eq-DONE.true
 
 figures-requires : tie.Need-figures-requires
 figures-requires c κs =
     let a = c.before.before.before.args in
     drawable-picture a.side a.level a.table.now (length a.picture.now) (accepted c.before)
 
-same_length : tie.Need-same-length
+same_length : tie.Need-shape_of-picture
 same_length c = search rules
 
-returns : tie.Need-returns
+returns : tie.Need-returns-then-number-eq-DONE
 returns c =
     let drawn = c.before.figures.ensures ∙ sym (if_done_lem _ _ (accepted c.before.before.before)) in
-    (c.before.before.before.before.draw-refusal.ensures, (drawn, refl))
+    (c.before.before.before.before.draw_refusal-number.ensures, (drawn, refl))
 
-returns-2 : tie.Need-returns-2
+returns-2 : tie.Need-returns-else-number-eq-DONE
 returns-2 c =
-    let e = c.before.draw-refusal.ensures in
-    (e, (sym (if_refused _ _ (λ z. c.if1.false (e ∙ z))), refl))
+    let e = c.before.draw_refusal-number.ensures in
+    (e, (sym (if_refused _ _ (λ z. c.if-number-eq-DONE.false (e ∙ z))), refl))
 
-pub figures-spec : {M : Type 1} → statement M
-figures-spec = tie.close (tie.spec (λ c κs. search rules) figures-requires same_length returns returns-2)
+pub figures_spec : {M : Type 1} → statement M
+figures_spec = tie.close (tie.spec (λ c κs. search rules) figures-requires same_length returns returns-2)

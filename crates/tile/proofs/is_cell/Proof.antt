@@ -7,16 +7,16 @@ use Rattle.integers.specs.Conjunction.{second_decides, first_decides}
 use Rattle.tile.proofs.is_cell.Statement.{statement}
 use Rattle.tile.proofs.is_cell.Tie as tie
 
-returns : tie.Need-returns
+returns : tie.Need-returns-then-cx-n
 returns c =
-    let e = c.before.cells-across.ensures in
+    let e = c.before.cells_across-n.ensures in
     let a = c.before.before.args in
-    ap (ltb a.cy) e ∙ second_decides _ _ (sym (ap (ltb a.cx) e) ∙ lt-ltb _ _ c.if1.true)
+    ap (ltb a.cy) e ∙ second_decides _ _ (sym (ap (ltb a.cx) e) ∙ lt-ltb _ _ c.if-cx-n.true)
 
-returns-2 : tie.Need-returns-2
+returns-2 : tie.Need-returns-else-cx-n
 returns-2 c =
-    let e = ap (ltb c.before.before.args.cx) c.before.cells-across.ensures in
-    e ∙ first_decides _ _ (sym e ∙ le-ltb _ _ c.if1.false)
+    let e = ap (ltb c.before.before.args.cx) c.before.cells_across-n.ensures in
+    e ∙ first_decides _ _ (sym e ∙ le-ltb _ _ c.if-cx-n.false)
 
-pub is-cell-spec : {M : Type 1} → statement M
-is-cell-spec = tie.close (tie.spec (λ c κs. search rules) returns returns-2)
+pub is_cell_spec : {M : Type 1} → statement M
+is_cell_spec = tie.close (tie.spec (λ c κs. search rules) returns returns-2)

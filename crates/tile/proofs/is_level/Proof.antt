@@ -6,7 +6,7 @@ use Rattle.tile.proofs.is_level.Statement.{statement}
 use Rattle.tile.proofs.is_level.Tie as tie
 
 returns : tie.Need-returns
-returns c = ap (leb c.before.args.level) c.depth-of.ensures
+returns c = ap (leb c.before.args.level) c.depth_of.ensures
 
-pub is-level-spec : {M : Type 1} → statement M
-is-level-spec = tie.close (tie.spec (λ c κs. search rules) returns)
+pub is_level_spec : {M : Type 1} → statement M
+is_level_spec = tie.close (tie.spec (λ c κs. search rules) returns)

@@ -38,23 +38,23 @@ no-side side h = go (question1 side).answer refl
     go true e = let k = side_le side e in absurd (omega arith)
     go false e = refl
 
-returns : tie.Need-returns
+returns : tie.Need-returns-then-side-eq1
 returns c =
     let side = c.before.args.side in
     elim (dec_lt greatest_side side) [
       | yes p ↦ lt-leb side greatest_side p ∙ sym (no-side side p)
       | no p ↦
           (let h : side ≤ greatest_side = omega arith in
-          le-leb side greatest_side h ∙ sym (eq-eqb (ones side) 1 c.if1.true) ∙ side-one-bit side h)
+          le-leb side greatest_side h ∙ sym (eq-eqb (ones side) 1 c.if-side-eq1.true) ∙ side-one-bit side h)
     ]
 
-returns-2 : tie.Need-returns-2
+returns-2 : tie.Need-returns-else-side-eq1
 returns-2 c =
     let side = c.before.args.side in
     elim (dec_lt greatest_side side) [
-      | yes p ↦ ne_eqb (ones side) 1 c.if1.false ∙ sym (no-side side p)
+      | yes p ↦ ne_eqb (ones side) 1 c.if-side-eq1.false ∙ sym (no-side side p)
       | no p ↦ side-one-bit side (omega arith)
     ]
 
-pub is-side-spec : {M : Type 1} → statement M
-is-side-spec = tie.close (tie.spec returns returns-2)
+pub is_side_spec : {M : Type 1} → statement M
+is_side_spec = tie.close (tie.spec returns returns-2)

@@ -14,22 +14,22 @@ first s = table_questions s.args.side s.args.table.now
 abbrev rest : tie.Start → List Question
 rest s = question7 s.args.side s.args.level ∷ []
 
-returns : tie.Need-returns
+returns : tie.Need-returns-then-number-ne-DONE
 returns c =
     let s = c.before.before in
-    let e = c.before.tile-refusal.ensures.0 in
-    e ∙ first_refused (first s) (rest s) (λ z. c.if1.true (e ∙ z))
+    let e = c.before.tile_refusal-number.ensures.0 in
+    e ∙ first_refused (first s) (rest s) (λ z. c.if-number-ne-DONE.true (e ∙ z))
 
-after-2 : (c : tie.Else1) → After (first c.before.before ++ rest c.before.before) 2
+after-2 : (c : tie.Else-number-ne-DONE) → After (first c.before.before ++ rest c.before.before) 2
 after-2 c =
     let s = c.before.before in
-    record { same = first_passed (first s) (rest s) ((first_no-zero (first s) tt).0 (sym c.before.tile-refusal.ensures.0 ∙ c.if1.false)) }
+    record { same = first_passed (first s) (rest s) ((first_no-zero (first s) tt).0 (sym c.before.tile_refusal-number.ensures.0 ∙ c.if-number-ne-DONE.false)) }
 
-returns-2 : tie.Need-returns-2
-returns-2 c = refused (after-2 c.before.before) c.before.is-level.ensures c.if2.true
+returns-2 : tie.Need-returns-then-not-is_level
+returns-2 c = refused (after-2 c.before.before) c.before.is_level.ensures c.if-not-is_level.true
 
-returns-3 : tie.Need-returns-3
-returns-3 c = sym (passed (after-2 c.before.before) c.before.is-level.ensures c.if2.false).same
+returns-3 : tie.Need-returns
+returns-3 c = sym (passed (after-2 c.before.before) c.before.is_level.ensures c.if-not-is_level.false).same
 
-pub level-refusal-spec : {M : Type 1} → statement M
-level-refusal-spec = tie.close (tie.spec (λ c κs. search rules) returns (λ c κs. search rules) returns-2 returns-3)
+pub level_refusal_spec : {M : Type 1} → statement M
+level_refusal_spec = tie.close (tie.spec (λ c κs. search rules) returns (λ c κs. search rules) returns-2 returns-3)

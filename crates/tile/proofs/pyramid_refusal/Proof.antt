@@ -2,6 +2,7 @@
 use mathlib.Core.Path.{sym, ◌∙◌}
 use mathlib.Core.List.{List, [], ◌∷◌, ◌++◌}
 use borrow.Author.Rules.{rules}
+use borrow.Author.Tests.{not-true, not-false}
 use Rattle.integers.specs.ListSum.{All}
 use Rattle.tile.specs.Questions.{Question, Yes, question8_all, question9, table_questions}
 use Rattle.tile.specs.Laws.Sides.{side_depth}
@@ -16,34 +17,34 @@ first s = table_questions s.args.side s.args.table.now
 abbrev rest : tie.Start → List Question
 rest s = question8_all s.args.side s.args.size ∷ question9 s.args.table.now ∷ []
 
-returns : tie.Need-returns
+returns : tie.Need-returns-then-number-ne-DONE
 returns c =
     let s = c.before.before in
-    let e = c.before.tile-refusal.ensures.0 in
-    e ∙ first_refused (first s) (rest s) (λ z. c.if1.true (e ∙ z))
+    let e = c.before.tile_refusal-number.ensures.0 in
+    e ∙ first_refused (first s) (rest s) (λ z. c.if-number-ne-DONE.true (e ∙ z))
 
-first-yes : (c : tie.Else1) → All Yes (first c.before.before)
-first-yes c = (first_no-zero (first c.before.before) tt).0 (sym c.before.tile-refusal.ensures.0 ∙ c.if1.false)
+first-yes : (c : tie.Else-number-ne-DONE) → All Yes (first c.before.before)
+first-yes c = (first_no-zero (first c.before.before) tt).0 (sym c.before.tile_refusal-number.ensures.0 ∙ c.if-number-ne-DONE.false)
 
-after-2 : (c : tie.Else1) → After (first c.before.before ++ rest c.before.before) 2
+after-2 : (c : tie.Else-number-ne-DONE) → After (first c.before.before ++ rest c.before.before) 2
 after-2 c = let s = c.before.before in record { same = first_passed (first s) (rest s) (first-yes c) }
 
-is-pyramid-requires : tie.Need-is-pyramid-requires
+is-pyramid-requires : tie.Need-is_pyramid-requires
 is-pyramid-requires c κs = side_depth _ (first-yes c).0
 
-returns-2 : tie.Need-returns-2
-returns-2 c = refused (after-2 c.before.before) c.before.is-pyramid.ensures c.if2.true
+returns-2 : tie.Need-returns-then-not-is_pyramid
+returns-2 c = refused (after-2 c.before.before) c.before.is_pyramid.ensures c.if-not-is_pyramid.true
 
-after-3 : (c : tie.Else2) → After (first c.before.before.before.before ++ rest c.before.before.before.before) 3
-after-3 c = passed (after-2 c.before.before) c.before.is-pyramid.ensures c.if2.false
+after-3 : (c : tie.Else-not-is_pyramid) → After (first c.before.before.before.before ++ rest c.before.before.before.before) 3
+after-3 c = passed (after-2 c.before.before) c.before.is_pyramid.ensures c.if-not-is_pyramid.false
 
-returns-3 : tie.Need-returns-3
-returns-3 c = refused (after-3 c.before.before.before) c.before.before.search-entries.ensures.0 c.if3.true
+returns-3 : tie.Need-returns-then-not-search_entries
+returns-3 c = refused (after-3 c.before.before.before) c.before.before.search_entries.ensures.0 (not-true _ c.if-not-search_entries.true)
 
-returns-4 : tie.Need-returns-4
-returns-4 c = sym (passed (after-3 c.before.before.before) c.before.before.search-entries.ensures.0 c.if3.false).same
+returns-4 : tie.Need-returns
+returns-4 c = sym (passed (after-3 c.before.before.before) c.before.before.search_entries.ensures.0 (not-false _ c.if-not-search_entries.false)).same
 
-pub pyramid-refusal-spec : {M : Type 1} → statement M
-pyramid-refusal-spec =
+pub pyramid_refusal_spec : {M : Type 1} → statement M
+pyramid_refusal_spec =
     tie.close
     (tie.spec (λ c κs. search rules) returns is-pyramid-requires returns-2 (λ c κs. search rules) returns-3 returns-4)

@@ -7,10 +7,9 @@
 --   no_at, yes_at              question k's answer decides, or the questions after it do
 --   refused, passed            the same by what the code found
 --   first_refused, first_passed    the same of the questions that a list begins with
-use Rattle.std.specs.Prelude.{◌≡◌, refl, Bool, true, false, not, cond, List, [], ◌∷◌, ◌++◌, ℕ, zero, suc, get_or, drop}
+use Rattle.std.specs.Prelude.{◌≡◌, refl, Bool, true, false, cond, List, [], ◌∷◌, ◌++◌, ℕ, zero, suc, get_or, drop}
 use Rattle.std.proofs.Common.{sym, ◌∙◌, ap}
 use Rattle.integers.specs.ListSum.{All}
-use Rattle.std.proofs.lemmas.Bool.{not-true, not-false}
 use Rattle.tile.specs.Questions.{Question, Yes, first_no}
 
 pub record After (qs : List Question) (k : ℕ) : Type 0 where
@@ -39,13 +38,13 @@ module _ {qs : List Question} {k : ℕ} (h : After qs k) where
   pub yes_at : (question_at qs k).answer ≡ true → After qs (suc k)
   yes_at e = record { same = decide e }
 
-  -- the code tests `!found`
+  -- what the code found
   module _ {found : Bool} (e : found ≡ (question_at qs k).answer) where
-    pub refused : not found ≡ true → (question_at qs k).number ≡ first_no qs
-    refused t = no_at (sym e ∙ not-true found t)
+    pub refused : found ≡ false → (question_at qs k).number ≡ first_no qs
+    refused t = no_at (sym e ∙ t)
 
-    pub passed : not found ≡ false → After qs (suc k)
-    passed t = yes_at (sym e ∙ not-false found t)
+    pub passed : found ≡ true → After qs (suc k)
+    passed t = yes_at (sym e ∙ t)
 
 -- ---- a list that begins with other questions
 number_stays : (b : Bool) (n m k : ℕ) → ((n ≡ 0 → ⊥) → n ≡ m) → (cond b n k ≡ 0 → ⊥) → cond b n k ≡ cond b m k

@@ -9,14 +9,13 @@
 --   contours_edges               its edge count
 --   counts_asked,
 --   coordinates_asked            question 4, and a test of every coordinate, are asked of every contour
-use Rattle.std.specs.Prelude.{◌≡◌, refl, ◌↔◌, Bool, true, ◌&&◌, List, [], ◌∷◌, ◌++◌, ℕ, ◌+◌, ◌-◌, ◌*◌, ◌≤◌, leb, length, take, drop, ℤ, pos}
-use Rattle.std.proofs.Common.{sym, ◌∙◌, ap, ap₂, subst, arith, length-append, length-drop, take-append-drop, take_at, length-take-le}
-use Rattle.std.proofs.Math.Path.{subst⁻¹}
+use Rattle.std.specs.Prelude.{◌≡◌, refl, Bool, ◌&&◌, List, [], ◌∷◌, ◌++◌, ℕ, ◌+◌, ◌-◌, ◌*◌, leb, length, take, drop, ℤ}
+use Rattle.std.proofs.Common.{sym, ◌∙◌, ap, ap₂, arith, length-append, length-drop, take-append-drop, take_at, length-take-le}
 use Rattle.std.proofs.Math.Seq.{drop-append_seam}
-use Rattle.integers.specs.Units.{steps_per_pixel, fewest_points, most_points, most_edges}
+use Rattle.integers.specs.Units.{fewest_points, most_points}
 use Rattle.integers.specs.ListSum.{tally}
-use Rattle.integers.specs.Tests.{every, between, and_true_means}
-use Rattle.integers.specs.Every.{every_append, every-both}
+use Rattle.integers.specs.Tests.{every}
+use Rattle.integers.specs.Every.{every_append}
 use Rattle.accuracy.specs.Outline.{points_of, contours_of, edge_count}
 use Rattle.accuracy.specs.Laws.Coordinates.{taken_points}
 use Rattle.tile.specs.Questions.{question4}
