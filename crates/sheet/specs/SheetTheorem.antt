@@ -5,7 +5,7 @@
 --   sheet_accepted               what the answers say of an outline that is accepted
 --   sheet_faithful               what is left is drawn as `FaithfulOnSheet` says
 use Rattle.std.specs.Prelude.{◌≡◌, List, ℕ, ◌*◌, ◌≤◌, length, ℤ}
-use Rattle.std.proofs.Common.{sym, ◌∙◌, ap, subst, arith}
+use Rattle.std.proofs.Common.{sym, ◌∙◌, subst, arith}
 use Rattle.integers.specs.Units.{most_edges}
 use Rattle.edge.specs.declared.Edge.{Edge}
 use Rattle.haar.specs.Plane.{at}
@@ -21,7 +21,7 @@ use Rattle.accuracy.specs.Laws.Coordinates.{contours_of-count, contours_of_on_ti
 use Rattle.accuracy.specs.Laws.Denominator.{denominator-pos}
 use Rattle.accuracy.specs.Laws.Roots.{root_wholly_on}
 use Rattle.accuracy.specs.Laws.SheetTiles.{from-tile_area, from-tile-closed, from-tile-length, from-tile_octilinear, from-tile-signed}
-use Rattle.tile.specs.Questions.{Yes, depth_of, question2, question12}
+use Rattle.tile.specs.Questions.{Yes, depth_of, question12}
 use Rattle.tile.specs.Outcomes.{edges_of}
 use Rattle.tile.specs.Refusals.{question2_means, question3_means, question5_means}
 use Rattle.tile.specs.Faithful.{Drawn}

@@ -11,7 +11,7 @@
 --   twice_limit_at                 twice the limit of a figure's miss
 --   entries_at                    the table of an outline's edges
 --   site_result, site_table        building at a site, without a placement: what it answers, and the table afterwards
-use Rattle.std.specs.Prelude.{List, [], ◌∷◌, ◌++◌, ℕ, ℤ}
+use Rattle.std.specs.Prelude.{List, ◌++◌, ℕ, ℤ}
 use Rattle.edge.specs.declared.Edge.{Edge}
 use Rattle.placement.specs.declared.Placement.{Placement}
 use Rattle.placement.specs.declared.Placement.TheVariants.{None}

@@ -9,8 +9,7 @@
 --   square-accepted              a square over four tiles of a sheet, as it is asked for
 --   square-roots                 and its four roots add up to its area
 use Rattle.std.specs.Prelude.{◌≡◌, refl, List, [], ◌∷◌, ℕ, ◌*◌, ◌/◌, ◌<◌, eqb, length, get_or, replicate, ℤ, pos}
-use Rattle.std.proofs.Common.{◌∙◌, ap, ap₂, arith, lit<}
-use Rattle.integers.specs.Units.{steps_per_pixel}
+use Rattle.std.proofs.Common.{◌∙◌, ap, arith, lit<}
 use Rattle.integers.specs.ListSum.{All, tally}
 use Rattle.integers.specs.RangeSum.{Σ<, Σ_cong}
 use Rattle.edge.specs.declared.Edge.{Edge}
@@ -24,14 +23,12 @@ use Rattle.accuracy.specs.Outline.{signed_area, contours_of, points_of, through,
 use Rattle.accuracy.specs.Tile.{cell_width}
 use Rattle.accuracy.specs.OutlineTable.{tile_root, tile_table}
 use Rattle.accuracy.specs.Laws.SheetTiles.{tiles_add_up}
-use Rattle.tile.specs.Questions.{Yes, depth_of}
+use Rattle.tile.specs.Questions.{depth_of}
 use Rattle.tile.specs.Outcomes.{edges_of}
 use Rattle.sheet.specs.declared.SheetTile.{SheetTile}
 use Rattle.tile.specs.Laws.IfDone.{if_done_lem}
 use Rattle.tile.specs.Laws.Sides.{side_power}
 use Rattle.tile.specs.Laws.Accepted.{side_width}
-use Rattle.sheet.specs.declared.Site.TheVariants.{OnSheet}
-use Rattle.sheet.specs.SheetQuestions.{question14, question15}
 use Rattle.sheet.specs.SheetOutcomes.{tile_at, seen_from_tile, tile_entries, sheet_refusal, sheet_table}
 use Rattle.sheet.specs.SheetRefusals.{sheet_refusals, question15_means}
 use Rattle.sheet.specs.SheetTheorem.{sheet_accepted}

@@ -12,7 +12,6 @@ use Rattle.integers.specs.Units.{most_edges}
 use Rattle.integers.specs.ListSum.{All}
 use Rattle.edge.specs.declared.Edge.{Edge}
 use Rattle.placement.specs.Placed.{placed}
-use Rattle.placement.specs.Laws.PlacedPoints.{placed-length}
 use Rattle.accuracy.specs.Outline.{edge_count}
 use Rattle.rasterize.specs.declared.View.{View}
 use Rattle.rasterize.specs.Added.{added, entry_of}
@@ -74,34 +73,34 @@ module _ (s : tie.Start) where
   kept nonzero = sym (if_refused _ s.args.table.now nonzero)
 
 -- ---- a question about the place is answered no
-returns : tie.Need-returns
+returns : tie.Need-returns-then-refusal-ne-DONE
 returns c =
-    let s = c.before.before.before.before in
-    let e = c.before.place-refusal.ensures in
-    let n = e ∙ first_refused (first s) (rest s) (λ z. c.if1.true (e ∙ z)) ∙ asked_is s in
-    let no : number s ≢ 0 = λ z. c.if1.true (n ∙ z) in
+    let s = c.before.before.before in
+    let e = c.before.place_refusal-refusal.ensures in
+    let n = e ∙ first_refused (first s) (rest s) (λ z. c.if-refusal-ne-DONE.true (e ∙ z)) ∙ asked_is s in
+    let no : number s ≢ 0 = λ z. c.if-refusal-ne-DONE.true (n ∙ z) in
     (ap₂ answer n (sym (if_refused _ 0 no)), (kept s no, (is_faithful s (kept s no), (refl, refl))))
 
 -- ---- one about the outline
-module _ (c : tie.After-outline-refusal) where
+module _ (c : tie.After-outline_refusal-number) where
   abbrev start : tie.Start
-  start = c.before.before.before.before.before
+  start = c.before.before.before.before
 
-  asked : c.outline-refusal.result ≡ number start
+  asked : c.outline_refusal-number.result ≡ number start
   asked =
-      c.outline-refusal.ensures.0
-      ∙ sym (first_passed (first start) (rest start) ((first_no-zero (first start) tt).0 (sym c.before.before.place-refusal.ensures ∙ c.before.if1.false)))
+      c.outline_refusal-number.ensures.0
+      ∙ sym (first_passed (first start) (rest start) ((first_no-zero (first start) tt).0 (sym c.before.before.place_refusal-refusal.ensures ∙ c.before.if-refusal-ne-DONE.false)))
       ∙ asked_is start
 
-returns-2 : tie.Need-returns-2
+returns-2 : tie.Need-returns-then-number-ne-DONE
 returns-2 c =
     let s = start c.before in
     let n = asked c.before in
-    let no : number s ≢ 0 = λ z. c.if2.true (n ∙ z) in
+    let no : number s ≢ 0 = λ z. c.if-number-ne-DONE.true (n ∙ z) in
     (ap₂ answer n (sym (if_refused _ 0 no)), (kept s no, (is_faithful s (kept s no), (refl, refl))))
 
 -- ---- none: the outline goes into a cleared table
-module _ (c : tie.Else2) where
+module _ (c : tie.Else-number-ne-DONE) where
   abbrev entry : tie.Start
   entry = start c.before
 
@@ -112,68 +111,68 @@ module _ (c : tie.Else2) where
   es = edges_of (placed entry.args.placement entry.args.points.now) entry.args.counts.now
 
   done : number entry ≡ 0
-  done = sym (asked c.before) ∙ c.if2.false
+  done = sym (asked c.before) ∙ c.if-number-ne-DONE.false
 
   accepted : AcceptedOnSheet entry.args.place entry.args.points.now entry.args.counts.now entry.args.placement entry.args.table.now
   accepted = sheet_accepted entry.args.place entry.args.points.now entry.args.counts.now entry.args.placement entry.args.table.now done
 
-view-of-requires : tie.Need-view-of-requires
+view-of-requires : tie.Need-view_of-view-requires
 view-of-requires c κs = (accepted c.before.before.before).site
 
-add-outline-requires : tie.Need-add-outline-requires
+add-outline-requires : tie.Need-add_outline-requires
 add-outline-requires c κs =
     let v = c.before.before in
     let z = v.before.before in
     let e = z.before.before in
     let s = entry e in
     let a = accepted e in
-    let d = c.depth-of.ensures in (
+    let d = c.depth_of.ensures in (
       cleared_fits s.args.place.side s.args.table.now (site_side (site e) a.site) a.table_length_lem z.clear.ensures d (edge_count s.args.counts.now) a.few_edges,
       omega (arith, a.points_length),
-      subst⁻¹ (λ k. All (InView v.view_of.result k) (es e)) d
-          (subst⁻¹ (λ w. All (InView w (depth_of s.args.place.side)) (es e)) v.view_of.ensures (site_in_view (site e) a.site (es e) a.on_sheet.on_tile)),
+      subst⁻¹ (λ k. All (InView v.view_of-view.result k) (es e)) d
+          (subst⁻¹ (λ w. All (InView w (depth_of s.args.place.side)) (es e)) v.view_of-view.ensures (site_in_view (site e) a.site (es e) a.on_sheet.on_tile)),
       record { low = le_z_yes tt; high = le_z_yes tt },
       a.movable,
     )
 
 -- when all edges are in and counted
-module _ (c : tie.After-edges-of) where
-  abbrev added-all : tie.After-add-outline
+module _ (c : tie.After-edges_of) where
+  abbrev added-all : tie.After-add_outline
   added-all = c.before.before
 
-  abbrev viewed : tie.After-view-of
+  abbrev viewed : tie.After-view_of-view
   viewed = added-all.before.before.before
 
   abbrev cleared : tie.After-clear
   cleared = viewed.before.before
 
-  abbrev at : tie.Else2
+  abbrev at : tie.Else-number-ne-DONE
   at = cleared.before.before
 
-  counted : c.edges-of.result ≡ edge_count (entry at).args.counts.now
-  counted = c.edges-of.ensures.0 ∙ capped_within (entry at).args.counts.now (accepted at).few_edges
+  counted : c.edges_of.result ≡ edge_count (entry at).args.counts.now
+  counted = c.edges_of.ensures.0 ∙ capped_within (entry at).args.counts.now (accepted at).few_edges
 
-  left_there : added-all.add-outline.last.0 ≡ outcome (entry at)
+  left_there : added-all.add_outline.new.table ≡ outcome (entry at)
   left_there =
       let s = entry at in
       let a = accepted at in
-      let k = added-all.before.depth-of.result in
+      let k = added-all.before.depth_of.result in
       cleared_built s.args.place.side s.args.table.now (site_side (site at) a.site) a.table_length_lem cleared.clear.ensures
-      added-all.before.depth-of.ensures (view_at (site at)) (es at)
-      (added-all.add-outline.ensures ∙ ap (λ (w : View). added cleared.clear.last.0 (λ i. pos 1 *ℤ entry_of k (view_table w k (es at)) i)) viewed.view_of.ensures)
+      added-all.before.depth_of.ensures (view_at (site at)) (es at)
+      (added-all.add_outline.ensures ∙ ap (λ (w : View). added cleared.clear.new.table (λ i. pos 1 *ℤ entry_of k (view_table w k (es at)) i)) viewed.view_of-view.ensures)
       ∙ site_entries (site at) (es at)
       ∙ sym (if_done_lem _ s.args.table.now (done at))
 
-cast-t19 : tie.Need-overflow-cast-t19
+cast-t19 : tie.Need-overflow_cast-result
 cast-t19 c = record { fits = omega (arith, counted c, (accepted (at c)).few_edges) }
 
-returns-3 : tie.Need-returns-3
+returns-3 : tie.Need-returns
 returns-3 c =
     let s = entry (at c) in
     (ap₂ answer (sym (done (at c))) (counted c ∙ sym (if_done_lem _ 0 (done (at c)))), (left_there c, (is_faithful s (left_there c), (refl, refl))))
 
-pub build-on-sheet-spec : {M : Type 1} → statement M
-build-on-sheet-spec =
+pub build_on_sheet_spec : {M : Type 1} → statement M
+build_on_sheet_spec =
     tie.close
     (tie.spec
     (λ c κs. search rules)

@@ -14,5 +14,5 @@ small s = omega (arith, s.requires)
 returns : tie.Need-returns
 returns c = to_z_pos w64 (small c)
 
-pub steps-of-spec : {M : Type 1} → statement M
-steps-of-spec = tie.close (tie.spec (λ c. search rules) (λ c. search rules) (λ c. search rules) returns)
+pub steps_of_spec : {M : Type 1} → statement M
+steps_of_spec = tie.close (tie.spec (λ c. search rules) (λ c. search rules) (λ c. search rules) returns)

@@ -10,8 +10,8 @@
 --   place_fits                   a tile at a place on the sheet ends on the sheet
 --   place_few                    so its column and its row are small
 use Rattle.std.specs.Prelude.{◌≡◌, Bool, true, false, not, ◌&&◌, ◌||◌, List, [], ◌∷◌, ◌++◌, ℕ, ◌+◌, ◌*◌, ◌/◌, ◌^◌, ◌<◌, ◌≤◌}
-use Rattle.std.proofs.Math.Path.{refl, subst⁻¹}
-use Rattle.std.proofs.Common.{sym, ◌∙◌, ap, subst, inl, inr, arith, mul-le-mul_left, mul-le-mul_right, le-leb, lit≤}
+use Rattle.std.proofs.Math.Path.{refl}
+use Rattle.std.proofs.Common.{◌∙◌, ap, subst, inl, inr, arith, mul-le-mul_left, mul-le-mul_right, le-leb}
 use Rattle.std.specs.Int.Count.{count_trailing_zeros}
 use Rattle.std.proofs.Math.Dec.{eqb, leb}
 use Rattle.integers.specs.Units.{greatest_sheet_side, greatest_tile_depth, greatest_tile_side}
@@ -19,7 +19,7 @@ use Rattle.integers.specs.Tests.{every, one_of, OneOf, and_true_means, eqb_means
 use Rattle.tile.specs.Questions.{Yes, depth_of, question1}
 use Rattle.sheet.specs.declared.SheetTile.{SheetTile}
 use Rattle.sheet.specs.SheetQuestions.{sheet_sides, tile_sides, question14}
-use Rattle.sheet.specs.SheetRefusals.{question14_means, question15_means}
+use Rattle.sheet.specs.SheetRefusals.{question14_means}
 
 -- a test of every number of a list holds of each
 one_has : (test : ℕ → Bool) (l : List ℕ) → every test l ≡ true → (n : ℕ) → OneOf n l → test n ≡ true

@@ -10,24 +10,22 @@
 --   site_entries                 their table is the sum of what each adds
 --   site_accepted                and can be drawn as promised
 --   entries_with, seen_length    it is the table with the root that the claim speaks of; and there are as many edges
-use Rattle.std.specs.Prelude.{◌≡◌, refl, List, [], ◌∷◌, map, ◌↔◌, ℕ, ◌+◌, ◌*◌, ◌-◌, ◌/◌, ◌^◌, ◌<◌, ◌≤◌, length, ℤ, pos, ◌+ℤ◌, ◌-ℤ◌, ◌≤ℤ◌}
-use Rattle.std.proofs.Common.{sym, ◌∙◌, ap, ap₂, arith, mul-le-mul_right, mul-le-mul_left, le_refl}
+use Rattle.std.specs.Prelude.{◌≡◌, refl, List, [], ◌∷◌, ◌↔◌, ℕ, ◌+◌, ◌*◌, ◌-◌, ◌/◌, ◌^◌, ◌<◌, ◌≤◌, length, ℤ, pos, ◌+ℤ◌, ◌≤ℤ◌}
+use Rattle.std.proofs.Common.{sym, ap, ap₂, arith, le_refl}
 use Rattle.std.proofs.Math.Path.{fun_ext}
 use Rattle.std.proofs.Math.Nat.{one-le-pow}
 use Rattle.integers.specs.Units.{steps_per_pixel, greatest_tile_depth, greatest_sheet_side, greatest_sheet_coordinate, most_edges}
 use Rattle.integers.specs.Order.{nonneg, pos-≤ℤ}
 use Rattle.integers.specs.Linear.{le, ◌&◌, linear, lin≤}
-use Rattle.integers.specs.ListSum.{All, all_map, all_image, total, total-map}
+use Rattle.integers.specs.ListSum.{All, all_map, all_image, total-map}
 use Rattle.edge.specs.declared.Edge.{Edge}
 use Rattle.edge.specs.declared.Cell.{Cell as Square}
-use Rattle.edge.specs.Room.{coordinate_limit}
 use Rattle.edge.specs.Rounded.{rounded_area}
 use Rattle.edge.specs.Nested.{Contains, Sheet, OnCell, seen_from}
 use Rattle.haar.specs.Entries.{entries}
-use Rattle.haar.specs.Table.{Coefficients}
 use Rattle.haar.specs.Plane.{dimensions}
 use Rattle.accuracy.specs.Tile.{cell_width, tile, EdgeOnTile, ClosedOnTile}
-use Rattle.accuracy.specs.OutlineTable.{edge_table, table_from}
+use Rattle.accuracy.specs.OutlineTable.{edge_table}
 use Rattle.accuracy.specs.Sheet.{corner, seen_sheet}
 use Rattle.accuracy.specs.Theorem.{edges_accurate, sheet_accurate}
 use Rattle.accuracy.specs.Laws.SheetTiles.{from-tile-closed, from-tile-length, from-tile_on}
