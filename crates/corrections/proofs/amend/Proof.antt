@@ -63,23 +63,23 @@ module _ (s : tie.Start) where
   thirteen e = ap (λ b. cond b (first_no (question9_twice given.table left-table ∷ [])) 13) e
 
 -- ---- question 13
-abbrev at : tie.After-taken-out → tie.Start
+abbrev at : tie.After-taken_out → tie.Start
 at c = c.before.before.before
 
-returns : tie.Need-returns
+returns : tie.Need-returns-then-taken_out-recorded
 returns c =
     let t = c.before in
     let s = at t in
-    let n = sym (thirteen s (lt-leb _ _ (subst (λ n. (given s).edges < n) t.taken_out.ensures c.if1.true))) in
+    let n = sym (thirteen s (lt-leb _ _ (subst (λ n. (given s).edges < n) t.taken_out.ensures c.if-taken_out-recorded.true))) in
     (n, (kept s n (λ z. absurd (omega (arith, z))), (refl, refl)))
 
-counted : (c : tie.Else1) → (let s = at c.before in taken_out s.args.change s.args.chords ≤ (given s).edges)
-counted c = subst (λ n. n ≤ (given (at c.before)).edges) c.before.taken_out.ensures c.if1.false
+counted : (c : tie.Else-taken_out-recorded) → (let s = at c.before in taken_out s.args.change s.args.chords ≤ (given s).edges)
+counted c = subst (λ n. n ≤ (given (at c.before)).edges) c.before.taken_out.ensures c.if-taken_out-recorded.false
 
 -- ---- question 9
-module _ (c : tie.After-search-entries) where
-  abbrev before-search : tie.Else1
-  before-search = c.before.before
+module _ (c : tie.After-search_entries-before) where
+  abbrev before-search : tie.Else-taken_out-recorded
+  before-search = c.before
 
   abbrev from : tie.Start
   from = at before-search.before
@@ -87,31 +87,31 @@ module _ (c : tie.After-search-entries) where
   nine : {b : Bool} → (question9_twice (given from).table (left-table from)).answer ≡ b → number from ≡ cond b 0 9
   nine e = thirteen from (le-leb _ _ (counted before-search)) ∙ ap (λ b. cond b 0 9) e
 
-returns-2 : tie.Need-returns-2
+returns-2 : tie.Need-returns-then-not-before
 returns-2 c =
     let f = c.before.before in
     let s = from f in
-    let out : (question9 (given s).table).answer ≡ false = sym f.search-entries.ensures.0 ∙ not-true _ c.if2.true in
+    let out : (question9 (given s).table).answer ≡ false = sym f.search_entries-before.ensures.0 ∙ not-true _ c.if-not-before.true in
     let n = sym (nine f (ap (λ b. b && (question9 (left-table s)).answer) out)) in
     (n, (kept s n (λ z. absurd (omega (arith, z))), (refl, refl)))
 
 -- ---- the change is made
-module _ (c : tie.Else2) where
-  abbrev searched : tie.After-search-entries
+module _ (c : tie.Else-not-before) where
+  abbrev searched : tie.After-search_entries-before
   searched = c.before.before
 
   abbrev origin : tie.Start
   origin = from searched
 
   in_range_lem : Yes (question9 (given origin).table)
-  in_range_lem = sym searched.search-entries.ensures.0 ∙ not-false _ c.if2.false
+  in_range_lem = sym searched.search_entries-before.ensures.0 ∙ not-false _ c.if-not-before.false
 
-view-of-requires : tie.Need-view-of-requires
-view-of-requires c κs = (origin c.before.before).pre.site_yes
+view_of-requires : tie.Need-view_of-view-requires
+view_of-requires c κs = (origin c.before.before).requires.site_yes
 
 -- the tile's depth, its view and the sign
-module _ (c : tie.After-sign-of) where
-  abbrev ranged : tie.Else2
+module _ (c : tie.After-sign_of-sign) where
+  abbrev ranged : tie.Else-not-before
   ranged = c.before.before.before.before
 
   abbrev s : tie.Start
@@ -120,23 +120,23 @@ module _ (c : tie.After-sign-of) where
   abbrev depth : ℕ
   depth = depth_of (tile_side (site s))
 
-  depth_is : c.before.before.depth-of.result ≡ depth
-  depth_is = c.before.before.depth-of.ensures ∙ ap depth_of c.before.before.before.tile-side.ensures
+  depth_is : c.before.before.depth_of-depth.result ≡ depth
+  depth_is = c.before.before.depth_of-depth.ensures ∙ ap depth_of c.before.before.before.tile_side.ensures
 
-  view-is : c.before.view_of.result ≡ view_at (site s)
-  view-is = c.before.view_of.ensures
+  view-is : c.before.view_of-view.result ≡ view_at (site s)
+  view-is = c.before.view_of-view.ensures
 
-  sign-is : back c.sign_of.result ≡ sign_of s.args.change
-  sign-is = result_is c.sign_of.type-inv c.sign_of.ensures
+  sign-is : back c.sign_of-sign.result ≡ sign_of s.args.change
+  sign-is = result_is c.sign_of-sign.type_inv c.sign_of-sign.ensures
 
-  edges-in-view : All (InView c.before.view_of.result c.before.before.depth-of.result) (edges s)
+  edges-in-view : All (InView c.before.view_of-view.result c.before.before.depth_of-depth.result) (edges s)
   edges-in-view =
-      subst⁻¹ (λ v. All (InView v c.before.before.depth-of.result) (edges s)) view-is
-      (subst⁻¹ (λ n. All (InView (view_at (site s)) n) (edges s)) depth_is (in_view s.pre))
+      subst⁻¹ (λ v. All (InView v c.before.before.depth_of-depth.result) (edges s)) view-is
+      (subst⁻¹ (λ n. All (InView (view_at (site s)) n) (edges s)) depth_is (in_view s.requires))
 
   -- what an addition leaves, in the words of the definitions
   as_said : (t : List ℤ) {z y : ℤ} → z ≡ y
-      → added t (edges_part c.before.view_of.result c.before.before.depth-of.result z (edges s)) ≡ added t (edges_part (view_at (site s)) depth y (edges s))
+      → added t (edges_part c.before.view_of-view.result c.before.before.depth_of-depth.result z (edges s)) ≡ added t (edges_part (view_at (site s)) depth y (edges s))
   as_said t {z} {y} e =
       ap₂ (λ (v : View) n. added t (edges_part v n z (edges s))) view-is depth_is ∙ ap (λ z. added t (edges_part (view_at (site s)) depth z (edges s))) e
 
@@ -146,103 +146,101 @@ module _ (c : tie.After-sign-of) where
       added_same t (edges_part (view_at (site s)) depth z (edges s)) (λ i. z *ℤ get_or (entries_at (site s) (edges s)) i (pos 0))
       (λ i h. ap (λ (l : List ℤ). z *ℤ get_or l i (pos 0)) (site_entries (site s) (edges s)))
 
-add-contour-requires : tie.Need-add-contour-requires
-add-contour-requires c κs =
+add_contour-requires : tie.Need-add_contour-requires
+add_contour-requires c κs =
     let d = c.before in
     let t = s d in (
-      subst⁻¹ (λ k. Fits (given t).table k (length (edges t))) (depth_is d) (fits_contour t.pre (in_range_lem (ranged d))),
+      subst⁻¹ (λ k. Fits (given t).table k (length (edges t))) (depth_is d) (fits_contour t.requires (in_range_lem (ranged d))),
       edges-in-view d,
       subst⁻¹ (Within (pos 1)) (sign-is d) (sign_within t.args.change),
-      t.pre.points_length,
-      on_sheet t.pre,
-      t.pre.yes12,
+      t.requires.points_length,
+      on_sheet t.requires,
+      t.requires.yes12,
     )
 
-module _ (c : tie.After-add-contour) where
-  abbrev signed : tie.After-sign-of
+module _ (c : tie.After-add_contour) where
+  abbrev signed : tie.After-sign_of-sign
   signed = c.before.before
 
   abbrev o : tie.Start
   o = s signed
 
-  edges-added : c.add-contour.new.0 ≡ added (given o).table (edges_part (view_at (site o)) (depth signed) (sign_of o.args.change) (edges o))
-  edges-added = c.add-contour.ensures ∙ as_said signed (given o).table (sign-is signed)
+  edges-added : c.add_contour.new.table ≡ added (given o).table (edges_part (view_at (site o)) (depth signed) (sign_of o.args.change) (edges o))
+  edges-added = c.add_contour.ensures ∙ as_said signed (given o).table (sign-is signed)
 
-  added_is : c.add-contour.new.0 ≡ left-table o
+  added_is : c.add_contour.new.table ≡ left-table o
   added_is = edges-added ∙ values signed (given o).table (sign_of o.args.change)
 
   -- the table that is left decides
-  number_is : {b : Bool} → (question9 c.add-contour.new.0).answer ≡ b → number o ≡ cond b 0 9
+  number_is : {b : Bool} → (question9 c.add_contour.new.table).answer ≡ b → number o ≡ cond b 0 9
   number_is e = nine (searched (ranged signed)) (ap₂ ◌&&◌ (in_range_lem (ranged signed)) (sym (ap (λ l. (question9 l).answer) added_is) ∙ e))
 
-  back_fits : SFits w64 (pos 0 -ℤ back signed.sign_of.result)
+  back_fits : SFits w64 (pos 0 -ℤ back signed.sign_of-sign.result)
   back_fits = subst⁻¹ (λ z. SFits w64 (pos 0 -ℤ z)) (sign-is signed) (opposite-fits o.args.change)
 
-  back_is : back (pos 0 -ℤ back signed.sign_of.result) ≡ pos 0 -ℤ sign_of o.args.change
+  back_is : back (pos 0 -ℤ back signed.sign_of-sign.result) ≡ pos 0 -ℤ sign_of o.args.change
   back_is = to_z-of_z back_fits ∙ ap (λ z. pos 0 -ℤ z) (sign-is signed)
 
 -- ---- it is undone where the table is then out of range
-module _ (c : tie.Then3) where
-  abbrev found : tie.After-search-entries2
+module _ (c : tie.Then-not-left) where
+  abbrev found : tie.After-search_entries-left
   found = c.before.before
 
-  abbrev there : tie.After-add-contour
-  there = found.before.before.before
+  abbrev there : tie.After-add_contour
+  there = found.before.before
 
-sub_back : tie.Need-overflow-sub-back
+sub_back : tie.Need-overflow_sub-back
 sub_back c = back_fits (there c)
 
-add-contour-requires-2 : tie.Need-add-contour-requires-2
-add-contour-requires-2 c κs =
+add_contour-requires-2 : tie.Need-add_contour-requires-then-not-left
+add_contour-requires-2 c κs =
     let a = there c.before in
     let d = signed a in
-    let t = o a in
-    let sign = subst⁻¹ (Within (pos 1)) (sign-is d) (sign_within t.args.change) in
-    let opposite = subst⁻¹ (Within (pos 1)) (back_is a) (back_within t.args.change) in (
-      subst⁻¹ (λ k. Fits a.add-contour.last.0 k (length (edges t))) (depth_is d)
-          (subst⁻¹ (λ l. Fits l (depth d) (length (edges t))) (edges-added a) (fits_again t.pre (in_range_lem (ranged d)))),
+    let t = o a in (
+      subst⁻¹ (λ k. Fits a.add_contour.new.table k (length (edges t))) (depth_is d)
+          (subst⁻¹ (λ l. Fits l (depth d) (length (edges t))) (edges-added a) (fits_again t.requires (in_range_lem (ranged d)))),
       edges-in-view d,
-      search (sign, opposite),
-      t.pre.points_length,
-      on_sheet t.pre,
-      t.pre.yes12,
+      subst⁻¹ (Within (pos 1)) (back_is a) (back_within t.args.change),
+      t.requires.points_length,
+      on_sheet t.requires,
+      t.requires.yes12,
     )
 
-returns-3 : tie.Need-returns-3
+returns-3 : tie.Need-returns-then-not-left
 returns-3 c =
     let twice = c.before in
     let f = twice.before.before in
     let a = there f in
     let d = signed a in
     let t = o a in
-    let n = sym (number_is a (sym (found f).search-entries2.ensures.0 ∙ not-true _ f.if3.true)) in
+    let n = sym (number_is a (sym (found f).search_entries-left.ensures.0 ∙ not-true _ f.if-not-left.true)) in
     let minus = pos 0 -ℤ sign_of t.args.change in
-    let restored : twice.add-contour2.new.0 ≡ (given t).table =
-    twice.add-contour2.ensures
-    ∙ as_said d a.add-contour.last.0 (back_is a)
-    ∙ values d a.add-contour.last.0 minus
+    let restored : twice.add_contour-then-not-left.new.table ≡ (given t).table =
+    twice.add_contour-then-not-left.ensures
+    ∙ as_said d a.add_contour.new.table (back_is a)
+    ∙ values d a.add_contour.new.table minus
     ∙ ap (λ l. added l (λ i. minus *ℤ get_or (entries_at (site t) (edges t)) i (pos 0))) (added_is a)
     ∙ added_undone (given t).table (sign_of t.args.change) (λ i. get_or (entries_at (site t) (edges t)) i (pos 0)) in
     (n, (ap (λ l. tile_of l (given t).edges) restored ∙ kept t n (λ z. absurd (omega (arith, z))), (refl, refl)))
 
 -- ---- and else it is counted
-edges-after-requires : tie.Need-edges-after-requires
-edges-after-requires c κs =
-    let a = c.before.before.before.before.before in
+edges_after-requires : tie.Need-edges_after-requires
+edges_after-requires c κs =
+    let a = c.before.before.before.before in
     let d = signed a in
     ((o a).requires.few, counted (before-search (searched (ranged d))))
 
-returns-4 : tie.Need-returns-4
+returns-4 : tie.Need-returns
 returns-4 c =
     let e = c.before in
     let f = e.before.before in
-    let a = f.before.before.before in
+    let a = f.before.before in
     let t = o a in
-    let n = number_is a (sym f.search-entries2.ensures.0 ∙ not-false _ e.if3.false) in
-    (sym n, (ap₂ tile_of (added_is a) c.edges-after.ensures ∙ sym (if_done_lem _ (given t) n), (refl, refl)))
+    let n = number_is a (sym f.search_entries-left.ensures.0 ∙ not-false _ e.if-not-left.false) in
+    (sym n, (ap₂ tile_of (added_is a) c.edges_after.ensures ∙ sym (if_done_lem _ (given t) n), (refl, refl)))
 
-pub amend-spec : {M : Type 1} → statement M
-amend-spec =
+pub amend_spec : {M : Type 1} → statement M
+amend_spec =
     tie.close
     (tie.spec
     (λ c κs. search rules)
@@ -252,14 +250,14 @@ amend-spec =
     returns-2
     (λ c κs. search rules)
     (λ c κs. search rules)
-    view-of-requires
+    view_of-requires
     (λ c κs. search rules)
-    add-contour-requires
+    add_contour-requires
     (λ c κs. search rules)
     sub_back
-    add-contour-requires-2
+    add_contour-requires-2
     (λ c. search rules)
     returns-3
-    edges-after-requires
+    edges_after-requires
     (λ c. search rules)
     returns-4)

@@ -61,40 +61,40 @@ module _ (s : tie.Start) where
   kept e h = sym (if_refused _ given (λ z. h (e ∙ z)))
 
 -- ---- the questions about the site
-returns : tie.Need-returns
+returns : tie.Need-returns-then-refusal-ne-DONE
 returns c =
-    let s = c.before.before.before.before.before in
-    let e = c.before.site-refusal.ensures.0 in
-    let n = e ∙ first_refused (first s) (second s) (λ z. c.if1.true (e ∙ z)) in
-    let number = n ∙ first_refused (about s) (later s) (λ z. c.if1.true (n ∙ z)) in
-    (number, (kept s number c.if1.true, refl))
+    let s = c.before.before.before.before in
+    let e = c.before.site_refusal-refusal.ensures.0 in
+    let n = e ∙ first_refused (first s) (second s) (λ z. c.if-refusal-ne-DONE.true (e ∙ z)) in
+    let number = n ∙ first_refused (about s) (later s) (λ z. c.if-refusal-ne-DONE.true (n ∙ z)) in
+    (number, (kept s number c.if-refusal-ne-DONE.true, refl))
 
 -- ---- the questions about the contour
-module _ (c : tie.After-outline-refusal) where
-  abbrev on-site : tie.Else1
+module _ (c : tie.After-outline_refusal-number) where
+  abbrev on-site : tie.Else-refusal-ne-DONE
   on-site = c.before.before.before
 
   abbrev start : tie.Start
-  start = on-site.before.before.before.before.before
+  start = on-site.before.before.before.before
 
-  asked : c.outline-refusal.result ≡ first_no (about start)
+  asked : c.outline_refusal-number.result ≡ first_no (about start)
   asked =
-      let placed-in = on-site.before.before.before in
-      c.outline-refusal.ensures.0
-      ∙ ap₂ (λ r n. first_no (outline_questions r (call start).points ((call start).count ∷ []) (call start).placement n)) c.before.before.reach_of.ensures
-      placed-in.already-in.ensures
-      ∙ sym (first_passed (first start) (second start) (site_zero (site start) (given start).table (sym on-site.before.site-refusal.ensures.0 ∙ on-site.if1.left)))
+      let placed-in = on-site.before.before in
+      c.outline_refusal-number.ensures.0
+      ∙ ap₂ (λ r n. first_no (outline_questions r (call start).points ((call start).count ∷ []) (call start).placement n)) c.before.before.reach_of-reach.ensures
+      placed-in.already_in-already.ensures
+      ∙ sym (first_passed (first start) (second start) (site_zero (site start) (given start).table (sym on-site.before.site_refusal-refusal.ensures.0 ∙ on-site.if-refusal-ne-DONE.false)))
 
-returns-2 : tie.Need-returns-2
+returns-2 : tie.Need-returns-then-number-ne-DONE
 returns-2 c =
     let s = start c.before in
     let e = asked c.before in
-    let number = e ∙ first_refused (about s) (later s) (λ z. c.if2.true (e ∙ z)) in
-    (number, (kept s number c.if2.true, refl))
+    let number = e ∙ first_refused (about s) (later s) (λ z. c.if-number-ne-DONE.true (e ∙ z)) in
+    (number, (kept s number c.if-number-ne-DONE.true, refl))
 
-module _ (c : tie.Else2) where
+module _ (c : tie.Else-number-ne-DONE) where
   yes : AskedYes (call (start c.before)) (given (start c.before))
-  yes = (contour_zero (call (start c.before)) (given (start c.before))).0 (sym (asked c.before) ∙ c.if2.false)
+  yes = (contour_zero (call (start c.before)) (given (start c.before))).0 (sym (asked c.before) ∙ c.if-number-ne-DONE.false)
 
   passed : correct_refusal (call (start c.before)) (given (start c.before)) ≡ first_no (later (start c.before))
   passed =
@@ -102,7 +102,7 @@ module _ (c : tie.Else2) where
       first_passed (about s) (later s) ((asked_yes (call s) (given s)).1 yes)
 
 -- ---- no edge is curved
-module _ (c : tie.Else2) where
+module _ (c : tie.Else-number-ne-DONE) where
   abbrev at : tie.Start
   at = start c.before
 
@@ -146,16 +146,16 @@ module _ (c : tie.Else2) where
         few = few_edges (call at) (given at) y;
       }
 
-array-share-prefix-straight : tie.Need-array-share-prefix-straight
+array-share-prefix-straight : tie.Need-slice_bounds-straight-end
 array-share-prefix-straight c = few_points c
 
-slice-aggregate-marks : tie.Need-slice-aggregate-marks
+slice-aggregate-marks : tie.Need-slice_bounds-marks-end
 slice-aggregate-marks c = sym (length-take-le _ _ (omega (arith, few_points c.before, length-replicate {A = ℕ} most_points 0)))
 
 amend-requires : tie.Need-amend-requires
 amend-requires c κs = amendable c.before.before.before
 
-returns-3 : tie.Need-returns-3
+returns-3 : tie.Need-returns
 returns-3 c =
     let a = c.before in
     let e = a.before.before.before.before in
@@ -165,8 +165,8 @@ returns-3 c =
     ∙ ap (λ m. if_done m (tile_of (would_leave (call t) (given t)) (edges_after t.args.change (n e) (given t).edges)) (given t)) (sym (passed e)) in
     (a.amend.ensures.0 ∙ asked, (a.amend.ensures.1.0 ∙ left, refl))
 
-pub correct-spec : {M : Type 1} → statement M
-correct-spec =
+pub correct_spec : {M : Type 1} → statement M
+correct_spec =
     tie.close
     (tie.spec
     (λ c κs. search rules)
