@@ -2,7 +2,7 @@
 
 -- sums and what is rounded of them, of numbers that are read back from their bits
 pub mod SumBits
--- definitions by the half, as the code tests it
+-- definitions by the half, and the smaller and the larger of two numbers, as the code tests them
 pub mod HalfTests
 -- a piece whose numbers are read back
 pub mod PieceBits

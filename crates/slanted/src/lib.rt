@@ -230,12 +230,14 @@ pub fn details_of(l: Slope, k: Piece) -> Details
 // ---- in a quarter, half by half: 0 is the half before a crossing, and 1 the one after it.
 
 // The earlier of two steps, and the later.
+#[tactic(auto, using(crate::proofs::HalfTests::min_taken, crate::proofs::HalfTests::min_left))]
 fn low(a: i64, b: i64) -> i64
     ensures { result ≡ min a b }
 {
     if a <= b { a } else { b }
 }
 
+#[tactic(auto, using(crate::proofs::HalfTests::max_taken, crate::proofs::HalfTests::max_left))]
 fn high(a: i64, b: i64) -> i64
     ensures { result ≡ max a b }
 {
