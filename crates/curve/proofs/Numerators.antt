@@ -2,15 +2,10 @@
 --
 -- Main results
 --   num_low, num_high            the bounds
---   on_within                    a coordinate of a sheet, by its magnitude
-use mathlib.Core.List.{[], ◌∷◌}
-use lib.IntN.{ℤ, pos, ◌-ℤ◌, ◌*ℤ◌}
-use lib.Signed.{◌≤ℤ◌}
-use Rattle.integers.specs.Units.{greatest_sheet_coordinate}
+use Rattle.std.proofs.Common.{[], ◌∷◌, ℤ, pos, ◌-ℤ◌, ◌*ℤ◌, ◌≤ℤ◌}
 use Rattle.integers.specs.Order.{≤ℤ-mul, ≤ℤ-mul-nonneg, ≤ℤ-square}
 use Rattle.integers.specs.Linear.{le, ◌&◌, linear, lin≤}
-use Rattle.integers.specs.Within.{Within, within_le, within_self}
-use Rattle.curve.specs.Curve.{OnSheet, curve_num}
+use Rattle.curve.specs.Curve.{curve_num}
 
 left : {n i : ℤ} → i ≤ℤ n → pos 0 ≤ℤ (n -ℤ i)
 left {n} {i} k = lin≤ (n ∷ i ∷ []) (le k) (search linear depth 40) tt
@@ -27,6 +22,3 @@ module _ {n i : ℤ} (h : pos 0 ≤ℤ i) (k : i ≤ℤ n) where
   num_high {p} {q} {r} {w} a b c =
       lin≤ (p ∷ q ∷ r ∷ n ∷ i ∷ w ∷ [])
       (le (≤ℤ-mul a (≤ℤ-square (n -ℤ i))) & le (≤ℤ-mul b (≤ℤ-mul-nonneg h (left k))) & le (≤ℤ-mul c (≤ℤ-square i))) (search linear depth 40) tt
-
-pub on_within : {z : ℤ} → OnSheet z → Within (pos greatest_sheet_coordinate) z
-on_within h = within_le h.1 (within_self h.0)

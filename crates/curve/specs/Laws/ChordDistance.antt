@@ -7,7 +7,7 @@
 -- Main results
 --   chord_curve                 the distance, n² b² times over
 --   chord_close                 it is at most one step
-use Rattle.std.specs.Prelude.{◌≡◌, refl, [], ◌∷◌, ◌*◌, ◌≤◌, ℤ, pos, ◌+ℤ◌, ◌-ℤ◌, ◌*ℤ◌, ◌≤ℤ◌}
+use Rattle.std.specs.Prelude.{◌≡◌, refl, [], ◌∷◌, ℤ, pos, ◌+ℤ◌, ◌-ℤ◌, ◌*ℤ◌, ◌≤ℤ◌}
 use Rattle.std.proofs.Common.{sym}
 use Rattle.integers.specs.Ring.{read, ring}
 use Rattle.integers.specs.Order.{≤ℤ-mul, ≤ℤ-mul-nonneg, ≤ℤ-square}

@@ -6,7 +6,7 @@
 --   splits-flat                 k does, where 7 does
 --   bend_within                 three coordinates from 0 to w have a bend within 2 w
 --   flat_on                     so 7 does for coordinates on a sheet
-use Rattle.std.specs.Prelude.{◌≡◌, refl, Bool, true, false, ◌&&◌, cond, [], ◌∷◌, ◌↔◌, ℕ, zero, suc, ◌+◌, ◌*◌, ◌<◌, ◌≤◌, ltb, ℤ, pos, ◌*ℤ◌, ◌≤ℤ◌}
+use Rattle.std.specs.Prelude.{◌≡◌, refl, Bool, true, false, ◌&&◌, cond, [], ◌∷◌, ◌↔◌, ℕ, zero, suc, ◌+◌, ◌<◌, ◌≤◌, ltb, ℤ, pos, ◌*ℤ◌, ◌≤ℤ◌}
 use Rattle.std.proofs.Common.{sym, ◌∙◌, subst, true≢false, arith, ltb-true, ltb-false}
 use Rattle.integers.specs.Units.{most_splits}
 use Rattle.integers.specs.Tests.{and_means, within_means}
