@@ -17,7 +17,7 @@ use Rattle.std.proofs.Math.Path.{sym, ap, ap₂, subst⁻¹}
 use Rattle.std.proofs.Common.{◌∙◌, subst, le-leb, length-drop, take-append-drop, length-take-le}
 use Rattle.std.proofs.Math.Bool.{◌&&◌}
 use mathlib.Core.List.{List, [], ◌∷◌, ◌++◌, map, Perm}
-use Prim.Native.Nat.{ℕ, zero, suc, ◌+◌, ◌*◌, ◌≤◌}
+use Prim.Native.Nat.{ℕ, ◌+◌, ◌*◌, ◌≤◌}
 use native.Mathlib.Omega.{arith}
 use Rattle.std.proofs.Math.ListN.{length, get_or, replicate}
 use Rattle.std.proofs.lemmas.List.{length-replicate}

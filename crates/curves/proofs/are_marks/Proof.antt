@@ -10,30 +10,30 @@ use Rattle.curves.specs.MarkedQuestions.{is_mark}
 use Rattle.curves.proofs.are_marks.Statement.{statement}
 use Rattle.curves.proofs.are_marks.Tie as tie
 
-abbrev invariant-loop : tie.invariant-loop
+abbrev invariant-loop : tie.invariant-loop-i
 invariant-loop marks i₀ i = (i ≤ length marks) × (every is_mark marks ≡ every is_mark (drop i marks))
 
-abbrev decreases-loop : tie.decreases-loop
+abbrev decreases-loop : tie.decreases-loop-i
 decreases-loop marks i₀ i = length marks - i
 
-loop-holds : tie.Need-loop-init invariant-loop decreases-loop
+loop-holds : tie.Need-loop-i-init invariant-loop decreases-loop
 loop-holds c = (search rules, refl)
 
-returns : tie.Need-returns invariant-loop decreases-loop
+returns : tie.Need-returns-then-marks-i-gt-GREATEST_MARK invariant-loop decreases-loop
 returns c =
     let i = c.before.before in
-    sym (i.before.loop.invariant.1 ∙ every_fails is_mark 0 _ _ i.loop-test.true (lt-leb _ _ c.if1.true))
+    sym (i.before.loop-i.invariant.1 ∙ every_fails is_mark 0 _ _ i.loop-i-test.true (lt-leb _ _ c.if-marks-i-gt-GREATEST_MARK.true))
 
-loop-again : tie.Need-loop-preserved invariant-loop decreases-loop
+loop-again : tie.Need-loop-i-preserved invariant-loop decreases-loop
 loop-again c =
     let i = c.before.before in
-    (search rules, i.before.loop.invariant.1 ∙ every_next is_mark 0 _ _ i.loop-test.true (le-leb _ _ c.if1.false))
+    (search rules, i.before.loop-i.invariant.1 ∙ every_next is_mark 0 _ _ i.loop-i-test.true (le-leb _ _ c.if-marks-i-gt-GREATEST_MARK.false))
 
-returns-2 : tie.Need-returns-2 invariant-loop decreases-loop
-returns-2 c = sym (c.before.loop.invariant.1 ∙ every_end is_mark 0 _ _ c.loop-test.false)
+returns-2 : tie.Need-returns invariant-loop decreases-loop
+returns-2 c = sym (c.before.loop-i.invariant.1 ∙ every_end is_mark 0 _ _ c.loop-i-test.false)
 
-pub are-marks-spec : {M : Type 1} → statement M
-are-marks-spec =
+pub are_marks_spec : {M : Type 1} → statement M
+are_marks_spec =
     tie.close
     (tie.spec
     invariant-loop

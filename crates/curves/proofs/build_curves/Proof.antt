@@ -63,64 +63,64 @@ module _ (s : tie.Start) where
   kept nonzero = sym (if_refused _ s.args.table.now nonzero)
 
 -- ---- a question about the site is answered no
-returns : tie.Need-returns
+returns : tie.Need-returns-then-number-ne-DONE
 returns c =
     let a = c.before.before in
-    let s = a.before.before.before.before in
-    let e = a.site-refusal.ensures.0 in
-    let n = e ∙ first_refused (first s) (rest s) (λ z. c.before.if1.true (e ∙ z)) in
-    let no : number s ≢ 0 = λ z. c.before.if1.true (n ∙ z) in (
+    let s = a.before.before.before in
+    let e = a.site_refusal-number.ensures.0 in
+    let n = e ∙ first_refused (first s) (rest s) (λ z. c.before.if-number-ne-DONE.true (e ∙ z)) in
+    let no : number s ≢ 0 = λ z. c.before.if-number-ne-DONE.true (n ∙ z) in (
       c.refused.ensures ∙ ap₂ (λ m k. record { number = m; edges = k }) n (sym (if_refused _ 0 no)),
       (kept s no, (is_faithful s (kept s no), (refl, refl, refl))),
     )
 
 -- ---- all about the site are answered yes
-module _ (c : tie.Else1) where
+module _ (c : tie.Else-number-ne-DONE) where
   abbrev entry : tie.Start
-  entry = c.before.before.before.before.before
+  entry = c.before.before.before.before
 
   all_yes : All Yes (first entry)
-  all_yes = site_zero (site entry) entry.args.table.now (sym c.before.site-refusal.ensures.0 ∙ c.if1.false)
+  all_yes = site_zero (site entry) entry.args.table.now (sym c.before.site_refusal-number.ensures.0 ∙ c.if-number-ne-DONE.false)
 
   is_site : SiteYes (site entry)
   is_site = ((site_answers (site entry) entry.args.table.now).0 all_yes).0
 
-marked-refusal-requires : tie.Need-marked-refusal-requires
-marked-refusal-requires c κs = let e = c.before in omega (arith, c.reach_of.ensures, reach-le (site (entry e)) (is_site e))
+marked-refusal-requires : tie.Need-marked_refusal-built-requires
+marked-refusal-requires c κs = let e = c.before in omega (arith, c.reach_of-reach.ensures, reach-le (site (entry e)) (is_site e))
 
 -- ---- the questions about the outline decide
-module _ (c : tie.After-marked-refusal) where
+module _ (c : tie.After-marked_refusal-built) where
   abbrev start : tie.Start
   start = entry c.before.before
 
-  answer-is : c.marked-refusal.result
+  answer-is : c.marked_refusal-built.result
       ≡ curves_result (site start) start.args.points.now start.args.counts.now start.args.marks.now start.args.placement start.args.table.now
   answer-is =
       let a = start.args in
-      c.marked-refusal.ensures.0
-      ∙ ap (λ r. marked_result r a.points.now a.counts.now a.marks.now a.placement 0) c.before.reach_of.ensures
+      c.marked_refusal-built.ensures.0
+      ∙ ap (λ r. marked_result r a.points.now a.counts.now a.marks.now a.placement 0) c.before.reach_of-reach.ensures
       ∙ ap (λ n. record { number = n; edges = if_done n (length (es start)) 0 }) (sym (first_passed (first start) (rest start) (all_yes c.before.before)))
 
-  number_is : c.marked-refusal.result.number ≡ number start
+  number_is : c.marked_refusal-built.result.number ≡ number start
   number_is = ap (λ b. b.number) answer-is
 
-returns-2 : tie.Need-returns-2
+returns-2 : tie.Need-returns-then-built-ne-DONE
 returns-2 c =
     let m = c.before.before in
     let s = start m in
-    let no : number s ≢ 0 = λ z. c.if2.true (number_is m ∙ z) in
+    let no : number s ≢ 0 = λ z. c.if-built-ne-DONE.true (number_is m ∙ z) in
     (answer-is m, (kept s no, (is_faithful s (kept s no), (refl, refl, refl))))
 
 -- ---- none: the outline goes into a cleared table
-module _ (c : tie.Else2) where
-  abbrev asked : tie.After-marked-refusal
+module _ (c : tie.Else-built-ne-DONE) where
+  abbrev asked : tie.After-marked_refusal-built
   asked = c.before.before
 
   abbrev from : tie.Start
   from = start asked
 
   done : number from ≡ 0
-  done = sym (number_is asked) ∙ c.if2.false
+  done = sym (number_is asked) ∙ c.if-built-ne-DONE.false
 
   accepted : AcceptedMarked (site from) from.args.points.now from.args.counts.now from.args.marks.now from.args.placement 0 from.args.table.now
   accepted = curves_accepted (site from) from.args.points.now from.args.counts.now from.args.marks.now from.args.placement from.args.table.now done
@@ -128,21 +128,21 @@ module _ (c : tie.Else2) where
   long : length from.args.table.now ≡ tile_side (site from) * tile_side (site from)
   long = (question2_means (tile_side (site from)) from.args.table.now).0 accepted.yes2
 
-view-of-requires : tie.Need-view-of-requires
-view-of-requires c κs = (accepted c.before.before.before.before.before).site_yes
+view_of-requires : tie.Need-view_of-view-requires
+view_of-requires c κs = (accepted c.before.before.before.before.before).site_yes
 
 -- the tile's depth and view
-module _ (c : tie.After-view-of) where
+module _ (c : tie.After-view_of-view) where
   abbrev cleared : tie.After-clear
   cleared = c.before.before.before.before
 
-  abbrev gone : tie.Else2
+  abbrev gone : tie.Else-built-ne-DONE
   gone = cleared.before.before
 
-  depth_is : c.before.depth-of.result ≡ depth_of (tile_side (site (from gone)))
-  depth_is = c.before.depth-of.ensures ∙ ap depth_of c.before.before.tile-side.ensures
+  depth_is : c.before.depth_of-depth.result ≡ depth_of (tile_side (site (from gone)))
+  depth_is = c.before.depth_of-depth.ensures ∙ ap depth_of c.before.before.tile_side.ensures
 
-add-outline-requires : tie.Need-add-outline-requires
+add-outline-requires : tie.Need-add_outline-requires
 add-outline-requires c κs =
     let v = c.before in
     let e = gone v in
@@ -150,8 +150,8 @@ add-outline-requires c κs =
     let a = accepted e in
     let side = tile_side (site s) in (
       cleared_fits side s.args.table.now (site_side (site s) a.site_yes) (long e) (cleared v).clear.ensures (depth_is v) (length (es s)) (omega (arith, a.few_edges)),
-      subst⁻¹ (λ k. All (InView v.view_of.result k) (es s)) (depth_is v)
-          (subst⁻¹ (λ w. All (InView w (depth_of side)) (es s)) v.view_of.ensures (site_in_view (site s) a.site_yes (es s) a.within.on_tile)),
+      subst⁻¹ (λ k. All (InView v.view_of-view.result k) (es s)) (depth_is v)
+          (subst⁻¹ (λ w. All (InView w (depth_of side)) (es s)) v.view_of-view.ensures (site_in_view (site s) a.site_yes (es s) a.within.on_tile)),
       record { low = le_z_yes tt; high = le_z_yes tt },
       a.points_length,
       a.marks_length,
@@ -159,23 +159,23 @@ add-outline-requires c κs =
       a.movable,
     )
 
-returns-3 : tie.Need-returns-3
+returns-3 : tie.Need-returns
 returns-3 c =
     let o = c.before in
     let v = o.before.before in
     let e = gone v in
     let s = from e in
     let a = accepted e in
-    let k = v.before.depth-of.result in
-    let left_there : o.add-outline.new.0 ≡ outcome s =
+    let k = v.before.depth_of-depth.result in
+    let left_there : o.add_outline.new.table ≡ outcome s =
     cleared_built (tile_side (site s)) s.args.table.now (site_side (site s) a.site_yes) (long e) (cleared v).clear.ensures (depth_is v) (view_at (site s)) (es s)
-    (o.add-outline.ensures ∙ ap (λ (w : View). added (cleared v).clear.new.0 (edges_part w k (pos 1) (es s))) v.view_of.ensures)
+    (o.add_outline.ensures ∙ ap (λ (w : View). added (cleared v).clear.new.table (edges_part w k (pos 1) (es s))) v.view_of-view.ensures)
     ∙ site_entries (site s) (es s)
     ∙ sym (if_done_lem _ s.args.table.now (done e)) in
     (answer-is (asked e), (left_there, (is_faithful s left_there, (refl, refl, refl))))
 
-pub build-curves-spec : {M : Type 1} → statement M
-build-curves-spec =
+pub build_curves_spec : {M : Type 1} → statement M
+build_curves_spec =
     tie.close
     (tie.spec
     (λ c κs. search rules)
@@ -189,7 +189,7 @@ build-curves-spec =
     (λ c κs. search rules)
     (λ c κs. search rules)
     (λ c κs. search rules)
-    view-of-requires
+    view_of-requires
     add-outline-requires
     (λ c. search rules)
     returns-3)

@@ -54,62 +54,62 @@ module _ (s : tie.Start) where
   kept e h = sym (if_refused _ given (λ z. h (e ∙ z)))
 
 -- ---- the questions about the site
-returns : tie.Need-returns
+returns : tie.Need-returns-then-refusal-ne-DONE
 returns c =
-    let s = c.before.before.before.before.before.before in
-    let e = c.before.site-refusal.ensures.0 in
-    let n = e ∙ first_refused (first s) (second s) (λ z. c.if1.true (e ∙ z)) in
-    let number = n ∙ first_refused (about s) (later s) (λ z. c.if1.true (n ∙ z)) in
-    (number, (kept s number c.if1.true, (refl, refl)))
+    let s = c.before.before.before.before.before in
+    let e = c.before.site_refusal-refusal.ensures.0 in
+    let n = e ∙ first_refused (first s) (second s) (λ z. c.if-refusal-ne-DONE.true (e ∙ z)) in
+    let number = n ∙ first_refused (about s) (later s) (λ z. c.if-refusal-ne-DONE.true (n ∙ z)) in
+    (number, (kept s number c.if-refusal-ne-DONE.true, (refl, refl)))
 
-module _ (c : tie.Else1) where
+module _ (c : tie.Else-refusal-ne-DONE) where
   abbrev entry : tie.Start
-  entry = c.before.before.before.before.before.before
+  entry = c.before.before.before.before.before
 
   site_yes : All Yes (first entry)
-  site_yes = site_zero (site entry) (given entry).table (sym c.before.site-refusal.ensures.0 ∙ c.if1.false)
+  site_yes = site_zero (site entry) (given entry).table (sym c.before.site_refusal-refusal.ensures.0 ∙ c.if-refusal-ne-DONE.false)
 
   is_site : SiteYes (site entry)
   is_site = ((site_answers (site entry) (given entry).table).0 site_yes).0
 
-marked-refusal-requires : tie.Need-marked-refusal-requires
-marked-refusal-requires c κs = let e = c.before.before in omega (arith, c.before.reach_of.ensures, reach-le (site (entry e)) (is_site e))
+marked-refusal-requires : tie.Need-marked_refusal-asked-requires
+marked-refusal-requires c κs = let e = c.before.before in omega (arith, c.before.reach_of-reach.ensures, reach-le (site (entry e)) (is_site e))
 
 -- ---- the questions about the contour
-module _ (c : tie.After-marked-refusal) where
-  abbrev on-site : tie.Else1
+module _ (c : tie.After-marked_refusal-asked) where
+  abbrev on-site : tie.Else-refusal-ne-DONE
   on-site = c.before.before.before
 
   abbrev start : tie.Start
   start = entry on-site
 
-  answer-is : c.marked-refusal.result
+  answer-is : c.marked_refusal-asked.result
       ≡ marked_result (reach (site start)) (call start).points ((call start).count ∷ []) (call start).marks (call start).placement (already_in (call start).change (given start).edges)
   answer-is =
-      c.marked-refusal.ensures.0
-      ∙ ap₂ (λ r n. marked_result r (call start).points ((call start).count ∷ []) (call start).marks (call start).placement n) c.before.before.reach_of.ensures
-      on-site.before.before.before.already-in.ensures
+      c.marked_refusal-asked.ensures.0
+      ∙ ap₂ (λ r n. marked_result r (call start).points ((call start).count ∷ []) (call start).marks (call start).placement n) c.before.before.reach_of-reach.ensures
+      on-site.before.before.already_in-already.ensures
 
-  asked : c.marked-refusal.result.number ≡ first_no (about start)
+  asked : c.marked_refusal-asked.result.number ≡ first_no (about start)
   asked = ap (λ b. b.number) answer-is ∙ sym (first_passed (first start) (second start) (site_yes on-site))
 
-returns-2 : tie.Need-returns-2
+returns-2 : tie.Need-returns-then-asked-ne-DONE
 returns-2 c =
     let m = c.before.before in
     let s = start m in
-    let number = asked m ∙ first_refused (about s) (later s) (λ z. c.if2.true (asked m ∙ z)) in
-    (number, (kept s number c.if2.true, (refl, refl)))
+    let number = asked m ∙ first_refused (about s) (later s) (λ z. c.if-asked-ne-DONE.true (asked m ∙ z)) in
+    (number, (kept s number c.if-asked-ne-DONE.true, (refl, refl)))
 
 -- ---- all are answered yes
-module _ (c : tie.Else2) where
-  abbrev m : tie.After-marked-refusal
+module _ (c : tie.Else-asked-ne-DONE) where
+  abbrev m : tie.After-marked_refusal-asked
   m = c.before.before
 
   abbrev at : tie.Start
   at = start m
 
   second-zero : first_no (second at) ≡ 0
-  second-zero = sym (ap (λ b. b.number) (answer-is m)) ∙ c.if2.false
+  second-zero = sym (ap (λ b. b.number) (answer-is m)) ∙ c.if-asked-ne-DONE.false
 
   all_yes : All Yes (about at)
   all_yes = all_append Yes (first at) (second at) (site_yes (on-site m)) ((first_no-zero (second at) tt).0 second-zero)
@@ -122,13 +122,13 @@ module _ (c : tie.Else2) where
   unfolding tally
   same_edges = one_contour (call at).points (call at).count (call at).marks (call at).placement (accepted.marks_length ∙ omega arith) accepted.points_length
 
-  counted : m.marked-refusal.result.edges ≡ length (edges_in (call at))
+  counted : m.marked_refusal-asked.result.edges ≡ length (edges_in (call at))
   counted = ap (λ b. b.edges) (answer-is m) ∙ if_done_lem _ 0 second-zero ∙ ap length same_edges
 
   passed : correct_curve_refusal (call at) (given at) ≡ first_no (later at)
   passed = first_passed (about at) (later at) all_yes
 
-  amendable : Amendable (site at) (call at).change (call at).points (call at).marks m.marked-refusal.result.edges (call at).placement (given at)
+  amendable : Amendable (site at) (call at).change (call at).points (call at).marks m.marked_refusal-asked.result.edges (call at).placement (given at)
   amendable =
       let a = accepted in
       record {
@@ -144,7 +144,7 @@ module _ (c : tie.Else2) where
 amend-requires : tie.Need-amend-requires
 amend-requires c κs = amendable c.before.before
 
-returns-3 : tie.Need-returns-3
+returns-3 : tie.Need-returns
 returns-3 c =
     let a = c.before in
     let e = a.before.before.before in
@@ -155,8 +155,8 @@ returns-3 c =
     ∙ ap (λ n. if_done n (tile_of (left_by (site s) (call s).change es (given s).table) (edges_after (call s).change (length es) (given s).edges)) (given s)) (sym (passed e)) in
     (a.amend.ensures.0 ∙ number, (a.amend.ensures.1.0 ∙ left, (refl, refl)))
 
-pub correct-curves-spec : {M : Type 1} → statement M
-correct-curves-spec =
+pub correct_curves_spec : {M : Type 1} → statement M
+correct_curves_spec =
     tie.close
     (tie.spec
     (λ c κs. search rules)

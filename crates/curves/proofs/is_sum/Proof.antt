@@ -11,39 +11,39 @@ use Rattle.curves.proofs.is_sum.Tie as tie
 abbrev own : ℕ → ℕ
 own n = n
 
-abbrev invariant-loop : tie.invariant-loop
+abbrev invariant-loop : tie.invariant-loop-i
 invariant-loop counts size left₀ i₀ left i = (i ≤ length counts) × Down own 0 counts size i left
 
-abbrev decreases-loop : tie.decreases-loop
+abbrev decreases-loop : tie.decreases-loop-i
 decreases-loop counts size left₀ i₀ left i = length counts - i
 
-loop-holds : tie.Need-loop-init invariant-loop decreases-loop
+loop-holds : tie.Need-loop-i-init invariant-loop decreases-loop
 loop-holds c = (omega arith, down_start own 0 c.args.counts.now c.args.size)
 
-cast-count : tie.Need-overflow-cast-count invariant-loop decreases-loop
-cast-count c = record { fits = omega (arith, c.shared-slice-known.given c.before.before.loop.i) }
+cast-count : tie.Need-overflow_cast-count invariant-loop decreases-loop
+cast-count c = record { fits = omega (arith, c.shared_slice_known-1.given c.before.before.loop-i.i) }
 
-returns : tie.Need-returns invariant-loop decreases-loop
+returns : tie.Need-returns-then-count-left invariant-loop decreases-loop
 returns c =
     let i = c.before.before in
     let a = i.before.before.args in
-    sym (down-over own 0 a.counts.now a.size i.before.loop.i i.before.loop.left i.before.loop.invariant.1 i.loop-test.true c.if1.true)
+    sym (down-over own 0 a.counts.now a.size i.before.loop-i.i i.before.loop-i.left i.before.loop-i.invariant.1 i.loop-i-test.true c.if-count-left.true)
 
-loop-again : tie.Need-loop-preserved invariant-loop decreases-loop
+loop-again : tie.Need-loop-i-preserved invariant-loop decreases-loop
 loop-again c =
     let i = c.before.before in
     let a = i.before.before.args in
-    let l = i.before.loop in
-    (search rules, down_next own 0 a.counts.now a.size l.i l.left l.invariant.1 i.loop-test.true c.if1.false)
+    let l = i.before.loop-i in
+    (search rules, down_next own 0 a.counts.now a.size l.i l.left l.invariant.1 i.loop-i-test.true c.if-count-left.false)
 
-returns-2 : tie.Need-returns-2 invariant-loop decreases-loop
+returns-2 : tie.Need-returns invariant-loop decreases-loop
 returns-2 c =
     let a = c.before.before.args in
-    let l = c.before.loop in
-    down_end own 0 a.counts.now a.size l.i l.left l.invariant.1 c.loop-test.false
+    let l = c.before.loop-i in
+    down_end own 0 a.counts.now a.size l.i l.left l.invariant.1 c.loop-i-test.false
 
-pub is-sum-spec : {M : Type 1} → statement M
-is-sum-spec =
+pub is_sum_spec : {M : Type 1} → statement M
+is_sum_spec =
     tie.close
     (tie.spec
     invariant-loop
