@@ -21,25 +21,25 @@ module _ (s : tie.Start) where
   abbrev table : List ℤ
   table = s.args.table.now
 
-returns : tie.Need-returns
+returns : tie.Need-returns-then-is_deeper
 returns c =
     let s = c.before.before.before.before in
     let w = s.requires.1 in
-    let d : is_deeper s.args.side s.args.level ≡ true = sym c.before.before.is-deeper.ensures ∙ c.before.if1.true in (
-      c.refused-level.ensures ∙ ap (λ n. answer_of (refusal_text n)) (level_refusal_is (f s) w d)
+    let d : is_deeper s.args.side s.args.level ≡ true = sym c.before.before.is_deeper.ensures ∙ c.before.if-is_deeper.true in (
+      c.refused_level.ensures ∙ ap (λ n. answer_of (refusal_text n)) (level_refusal_is (f s) w d)
           ∙ ap answer_of (sym (if_refused (drawn_text (f s)) (refusal_text (outline_refusal (f s))) (level_refused (f s) w d))),
       sym (if_refused (over (frame_table (f s)) (table s)) (table s) (level_refused (f s) w d)),
     )
 
-returns-2 : tie.Need-returns-2
+returns-2 : tie.Need-returns
 returns-2 c =
     let e = c.before.before.before in
     let s = e.before.before.before in
     let w = s.requires.1 in
-    let d : is_deeper s.args.side s.args.level ≡ false = sym e.before.is-deeper.ensures ∙ e.if1.false in (
-      c.before.draw-outline.ensures.0 ∙ ap answer_of (outline_output (f s) w (table s) s.requires.0),
-      c.before.draw-outline.ensures.1 ∙ outline_table_lem (f s) w (table s) s.requires.0 d,
+    let d : is_deeper s.args.side s.args.level ≡ false = sym e.before.is_deeper.ensures ∙ e.if-is_deeper.false in (
+      c.before.draw_outline.ensures.0 ∙ ap answer_of (outline_output (f s) w (table s) s.requires.0),
+      c.before.draw_outline.ensures.1 ∙ outline_table_lem (f s) w (table s) s.requires.0 d,
     )
 
-pub draw-frame-spec : {M : Type 1} → statement M
-draw-frame-spec = tie.close (tie.spec (λ c κs. search rules) (λ c κs. search rules) returns (λ c κs. search rules) (λ c. search rules) returns-2)
+pub draw_frame_spec : {M : Type 1} → statement M
+draw_frame_spec = tie.close (tie.spec (λ c κs. search rules) (λ c κs. search rules) returns (λ c κs. search rules) (λ c. search rules) returns-2)

@@ -51,27 +51,27 @@ module _ (n edges : ℕ) (root : ℤ) (old head : List ℕ) (long : 21 ≤ n) (z
 root-back : (s : tie.Start) → over (summary_text s.args.edges (to_z w64 (of_z w64 s.args.root))) (zeros 8277) ≡ over (summary_text s.args.edges s.args.root) (zeros 8277)
 root-back s = ap (λ z. over (summary_text s.args.edges z) (zeros 8277)) (to_z-of_z s.ranges.root)
 
-put-rows-requires : tie.Need-put-rows-requires
+put-rows-requires : tie.Need-put_rows-requires
 put-rows-requires c κs =
     let s = c.before.before.before.before.before in
-    let p = c.before.before.put-summary in
-    let room = part_room 8277 s.args.edges s.args.root (zeros 8277) p.new.0 (omega arith) (zeros-length 8277) (p.ensures ∙ root-back s) 8256 refl in
+    let p = c.before.before.put_summary in
+    let room = part_room 8277 s.args.edges s.args.root (zeros 8277) p.new.out (omega arith) (zeros-length 8277) (p.ensures ∙ root-back s) 8256 refl in
     (s.requires.0, s.requires.1, omega (arith, room, rows-room s.args.across s.requires.0))
 
 returns : tie.Need-returns
 returns c =
     let s = c.before.before.before.before.before.before.before in
-    let p = c.before.before.before.before.put-summary in
+    let p = c.before.before.before.before.put_summary in
     let rows = rows_text s.args.across s.args.across s.args.greys.now in
     ap₂ answer
-    (all-written 8277 s.args.edges s.args.root (zeros 8277) p.new.0 (omega arith) (zeros-length 8277) (p.ensures ∙ root-back s) 8256 refl rows
-    c.before.put-rows.new.0 c.before.put-rows.ensures)
+    (all-written 8277 s.args.edges s.args.root (zeros 8277) p.new.out (omega arith) (zeros-length 8277) (p.ensures ∙ root-back s) 8256 refl rows
+    c.before.put_rows.new.out c.before.put_rows.ensures)
     (sym
     (length-append (summary_text s.args.edges s.args.root) rows
     ∙ omega (arith, summary_length_lem s.args.edges s.args.root, rows_text_length s.args.across s.args.across s.args.greys.now s.requires.1)))
 
-pub drawn-spec : {M : Type 1} → statement M
-drawn-spec =
+pub drawn_spec : {M : Type 1} → statement M
+drawn_spec =
     tie.close
     (tie.spec
     (λ c. search rules)

@@ -11,7 +11,7 @@ abbrev line : List ℕ → Answer
 line bytes = record { bytes = bytes; len = 11 }
 
 returns : tie.Need-returns
-returns c = ap line c.before.put-refusal.ensures
+returns c = ap line c.before.put_refusal.ensures
 
-pub refused-spec : {M : Type 1} → statement M
-refused-spec = tie.close (tie.spec (λ c. search rules) (λ c κs. search rules) returns)
+pub refused_spec : {M : Type 1} → statement M
+refused_spec = tie.close (tie.spec (λ c. search rules) (λ c κs. search rules) returns)

@@ -15,46 +15,46 @@ use Rattle.frame.specs.Laws.Output.{used_entries-le, build_number_small}
 use Rattle.frame.proofs.refused_level.Statement.{statement}
 use Rattle.frame.proofs.refused_level.Tie as tie
 
-array-borrow-prefix-table : tie.Need-array-borrow-prefix-table
-array-borrow-prefix-table c = omega (arith, c.used-entries.ensures, used_entries-le c.before.before.args.side)
+array-borrow-prefix-table : tie.Need-slice_bounds-table-end
+array-borrow-prefix-table c = omega (arith, c.used_entries-n.ensures, used_entries-le c.before.before.args.side)
 
 -- how much of m zeros is taken, m being a variable so that nothing computes them
 taken : (n m : ℕ) → n ≤ m → n ≡ length (take n (replicate m (pos 0)))
 taken n m h = sym (length-take-le n (replicate m (pos 0)) (omega (arith, length-replicate m (pos 0))))
 
-slice-aggregate-build : tie.Need-slice-aggregate-build
-slice-aggregate-build c = taken c.before.used-entries.result 4096 (array-borrow-prefix-table c.before)
+slice-aggregate-build : tie.Need-slice_bounds-build-end
+slice-aggregate-build c = taken c.before.used_entries-n.result 4096 (array-borrow-prefix-table c.before)
 
-module _ (c : tie.After-build) where
+module _ (c : tie.After-build-number) where
   abbrev start : tie.Start
   start = c.before.before.before.before
 
   abbrev number : ℕ
   number = build_refusal start.args.side start.args.points.now start.args.counts.now (take (used_entries start.args.side) (replicate table_length (pos 0)))
 
-  number_is : c.build.result.number ≡ number
+  number_is : c.build-number.result.number ≡ number
   number_is =
-      ap (λ r. r.number) c.build.ensures.0
-      ∙ ap (λ n. build_refusal start.args.side start.args.points.now start.args.counts.now (take n (replicate table_length (pos 0)))) c.before.before.used-entries.ensures
+      ap (λ r. r.number) c.build-number.ensures.0
+      ∙ ap (λ n. build_refusal start.args.side start.args.points.now start.args.counts.now (take n (replicate table_length (pos 0)))) c.before.before.used_entries-n.ensures
 
 refused-requires : tie.Need-refused-requires
 refused-requires c κs =
     let b = c.before.before in
     omega (arith, number_is b, build_number_small (start b).args.side (start b).args.points.now (start b).args.counts.now (take (used_entries (start b).args.side) (replicate table_length (pos 0))))
 
-returns : tie.Need-returns
+returns : tie.Need-returns-then-number-ne-DONE
 returns c =
     let b = c.before.before.before in
     c.refused.ensures
-    ∙ ap (λ n. answer_of (refusal_text n)) (number_is b ∙ sym (if_refused 7 (number b) (λ z. c.before.if1.true (number_is b ∙ z))))
+    ∙ ap (λ n. answer_of (refusal_text n)) (number_is b ∙ sym (if_refused 7 (number b) (λ z. c.before.if-number-ne-DONE.true (number_is b ∙ z))))
 
-returns-2 : tie.Need-returns-2
+returns-2 : tie.Need-returns
 returns-2 c =
     let b = c.before.before.before in
-    c.refused2.ensures ∙ ap (λ n. answer_of (refusal_text n)) (sym (if_done_lem 7 (number b) (sym (number_is b) ∙ c.before.if1.false)))
+    c.refused-2.ensures ∙ ap (λ n. answer_of (refusal_text n)) (sym (if_done_lem 7 (number b) (sym (number_is b) ∙ c.before.if-number-ne-DONE.false)))
 
-pub refused-level-spec : {M : Type 1} → statement M
-refused-level-spec =
+pub refused_level_spec : {M : Type 1} → statement M
+refused_level_spec =
     tie.close
     (tie.spec
     (λ c κs. search rules)

@@ -9,20 +9,20 @@ use Rattle.integers.specs.Units.{greatest_side}
 use Rattle.frame.proofs.used_entries.Statement.{statement}
 use Rattle.frame.proofs.used_entries.Tie as tie
 
-returns : tie.Need-returns
-returns c = let side = c.before.args.side in sym (ap (λ b. cond b (side * side) 0) (lt-leb side greatest_side c.if1.true))
+returns : tie.Need-returns-then-side-gt-GREATEST_SIDE
+returns c = let side = c.before.args.side in sym (ap (λ b. cond b (side * side) 0) (lt-leb side greatest_side c.if-side-gt-GREATEST_SIDE.true))
 
 few : (side : ℕ) → side ≤ greatest_side → side * side ≤ greatest_side * greatest_side
 few side h = mul-le-mul h h
 
-returns-2 : tie.Need-returns-2
-returns-2 c = let side = c.before.args.side in sym (ap (λ b. cond b (side * side) 0) (le-leb side greatest_side c.if1.false))
+returns-2 : tie.Need-returns
+returns-2 c = let side = c.before.args.side in sym (ap (λ b. cond b (side * side) 0) (le-leb side greatest_side c.if-side-gt-GREATEST_SIDE.false))
 
-pub used-entries-spec : {M : Type 1} → statement M
-used-entries-spec =
+pub used_entries_spec : {M : Type 1} → statement M
+used_entries_spec =
     tie.close
     (tie.spec
     returns
-    (λ c. record { fits = omega (arith, few c.before.args.side c.if1.false) })
-    (λ c. record { fits = omega (arith, few c.before.args.side c.if1.false) })
+    (λ c. record { fits = omega (arith, few c.before.args.side c.if-side-gt-GREATEST_SIDE.false) })
+    (λ c. record { fits = omega (arith, few c.before.args.side c.if-side-gt-GREATEST_SIDE.false) })
     returns-2)
