@@ -8,7 +8,6 @@ use lib.IntN.{ℤ, pos}
 use lib.ListN.{length, take, drop, replicate, length-drop}
 use lib.Seq.{length-take-le}
 use borrow.Author.Rules.{rules}
-use borrow.Author.Tests.{not-true, not-false}
 use Rattle.accuracy.specs.Outline.{edge_count}
 use Rattle.tile.specs.Outcomes.{if_done}
 use Rattle.frame_text.specs.Over.{over}
