@@ -10,7 +10,6 @@
 use Rattle.std.specs.Prelude.{◌≡◌, refl, false, cond, List, [], ◌∷◌, ◌≢◌, eqb, length, get_or, ℤ, pos, Float}
 use Rattle.std.proofs.Common.{◌∙◌, ap, ne_eqb}
 use Rattle.std.specs.Float.{nan, fin}
-use Rattle.placement.specs.declared.Matrix.{Matrix}
 use Rattle.placement.specs.declared.Placement.{Placement}
 use Rattle.placement.specs.declared.Placement.TheVariants.{None, Shift, Scale, Turn}
 use Rattle.placement.specs.Parts.{is_multiple}
