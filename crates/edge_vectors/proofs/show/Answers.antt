@@ -4,8 +4,7 @@ use mir.Val.{SFits}
 use Rattle.integers.specs.Linear.{le, ◌&◌}
 use Rattle.integers.specs.Machine.{machine, linfits}
 use Rattle.edge.specs.Room.{Room}
-use Rattle.edge.specs.declared.Edge.{Edge}
-use Rattle.edge_vectors.specs.Ready.{HalfWidth, cell_at}
+use Rattle.edge_vectors.specs.Ready.{HalfWidth}
 use Rattle.edge_vectors.proofs.show.Goals as goal
 
 -- the width, read back from its bits

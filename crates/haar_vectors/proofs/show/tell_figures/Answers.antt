@@ -1,5 +1,5 @@
 -- The picture has as many places as the level has cells.
-use Rattle.haar_vectors.proofs.Tables.{Part, entries_part}
+use Rattle.haar_vectors.proofs.Tables.{entries_part}
 use Rattle.haar_vectors.proofs.show.tell_figures.Goals as goal
 
 pub slice_bounds-picture-end : goal.slice_bounds-picture-end
