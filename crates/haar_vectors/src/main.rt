@@ -15,7 +15,7 @@ mod table;
 
 fn main(rt: HostRuntime) -> io::Result<()> {
     let mut buf = [0u8; INPUT_LIMIT];
-    let n = read_full(&mut rt.stdin(), &mut buf)?;
+    let n = read_full(&mut rt.stdin(), &mut buf);
     let mut table = table::blank();
     read::read_all(&mut rt.stdout(), &buf[..n], &mut table)
 }

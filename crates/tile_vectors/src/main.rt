@@ -26,7 +26,7 @@ const ROOM: usize = 4100;
 
 fn main(rt: HostRuntime) -> io::Result<()> {
     let mut text = [0u8; INPUT_LIMIT];
-    let n = read_full(&mut rt.stdin(), &mut text)?;
+    let n = read_full(&mut rt.stdin(), &mut text);
     let mut points = [0i64; ROOM];
     let mut counts = [0u32; ROOM];
     let mut table = [0i64; ROOM];
