@@ -16,7 +16,3 @@ pub mod OutlineTable
 pub mod Sheet
 -- ---- the claim
 pub mod Accurate
--- ---- and that it holds
-pub mod Theorem
--- ---- how it is proved
-pub mod Laws

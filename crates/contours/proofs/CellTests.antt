@@ -3,7 +3,8 @@ use mathlib.Core.Path.{subst}
 use mathlib.Core.Bool.{Bool}
 use lib.IntN.{ℤ, pos}
 use Rattle.integers.specs.Within.{Within}
-use Rattle.integers.specs.Bits.{back, back_is}
+use Rattle.integers.specs.Bits.{back}
+use Rattle.integers.proofs.Theorems.Bits.{back_is}
 use Rattle.edge.specs.declared.Cell.{Cell as Square}
 use Rattle.edge.specs.Room.{coordinate_limit}
 use Rattle.edge.specs.Nested.{OnRange}

@@ -12,10 +12,11 @@ use native.Mathlib.Omega.{arith}
 use lib.ListN.{length}
 use lib.IntN.{ℤ, pos, ◌+ℤ◌, ◌*ℤ◌}
 use Rattle.integers.specs.Units.{detail_limit}
-use Rattle.integers.specs.Ring.{read, ring}
+use Rattle.integers.proofs.Theorems.Ring.{read, ring}
 use Rattle.integers.specs.Within.{Within}
 use Rattle.integers.specs.ListSum.{All}
-use Rattle.integers.specs.RangeSum.{Σ<, Σ-zero, Σ-suc, Σ-split, Σ_within}
+use Rattle.integers.specs.RangeSum.{Σ<}
+use Rattle.integers.proofs.Theorems.RangeSum.{Σ-zero, Σ-suc, Σ-split, Σ_within}
 use Rattle.edge.specs.declared.Edge.{Edge}
 use Rattle.accuracy.specs.Outline.{points_of, contour_edges}
 use Rattle.rasterize.specs.declared.View.{View}
@@ -23,10 +24,11 @@ use Rattle.rasterize.specs.Added.{added, entry_of}
 use Rattle.contours.specs.Contour.{edge_of, edge_entry, edges_from}
 use Rattle.rasterize.specs.Ready.{Fits}
 use Rattle.rasterize.specs.Views.{part_table, InView}
-use Rattle.rasterize.specs.Laws.Adding.{added_same, added-signed, added_nothing}
-use Rattle.rasterize.specs.Laws.Sums.{entry_of-total, edges_part, edge_entry_within}
-use Rattle.rasterize.specs.Laws.Fitting.{fits_le, fits-added}
-use Rattle.rasterize.specs.Laws.Spare.{signed_within}
+use Rattle.rasterize.proofs.Laws.Adding.{added_same, added-signed, added_nothing}
+use Rattle.rasterize.proofs.Laws.Sums.{entry_of-total, edge_entry_within}
+use Rattle.rasterize.specs.Laws.Sums.{edges_part}
+use Rattle.rasterize.proofs.Laws.Fitting.{fits_le, fits-added}
+use Rattle.rasterize.proofs.Laws.Spare.{signed_within}
 use Rattle.contours.specs.Laws.ContourEdges.{contour_edges-sum, edge_of-has}
 
 -- what a contour's first k edges add

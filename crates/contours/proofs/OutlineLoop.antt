@@ -15,17 +15,19 @@ use lib.ListN.{length, get_or, take, drop, length-drop, drop_of_length-le}
 use lib.Seq.{drop-cons, drop-drop, length-take-le}
 use lib.IntN.{ℤ, pos}
 use Rattle.integers.specs.Within.{Within}
-use Rattle.integers.specs.ListSum.{All, all_front, all_back, tally}
+use Rattle.integers.specs.ListSum.{All, tally}
+use Rattle.integers.proofs.Theorems.ListSum.{all_front, all_back}
 use Rattle.edge.specs.declared.Edge.{Edge}
 use Rattle.accuracy.specs.Outline.{Point, points_of, contours_of, edge_count, contour_edges, outline_edges}
-use Rattle.accuracy.specs.Laws.Contours.{contour_edges-length}
-use Rattle.accuracy.specs.Laws.Coordinates.{taken_points}
+use Rattle.accuracy.proofs.Laws.Contours.{contour_edges-length}
+use Rattle.accuracy.proofs.Laws.Coordinates.{taken_points}
 use Rattle.rasterize.specs.declared.View.{View}
 use Rattle.rasterize.specs.Added.{added}
 use Rattle.rasterize.specs.Ready.{Fits}
 use Rattle.rasterize.specs.Views.{InView}
-use Rattle.rasterize.specs.Laws.Sums.{edges_part, added_append, added_no_edges}
-use Rattle.rasterize.specs.Laws.Fitting.{fits_le, fits_edges}
+use Rattle.rasterize.specs.Laws.Sums.{edges_part}
+use Rattle.rasterize.proofs.Laws.Sums.{added_append, added_no_edges}
+use Rattle.rasterize.proofs.Laws.Fitting.{fits_le, fits_edges}
 
 -- the table with an outline added
 abbrev outlined : View → ℕ → ℤ → List ℕ → List ℤ → List ℤ → List ℤ

@@ -14,9 +14,11 @@ use lib.ListN.{length}
 use lib.IntN.{ℤ, pos, negsuc, ◌+ℤ◌, ◌-ℤ◌}
 use borrow.Author.Tests.{lt-ltb}
 use Rattle.integers.specs.Units.{greatest_depth, detail_limit}
-use Rattle.integers.specs.Ring.{read, ring, comb, ◌⊕◌, ◌⊗◌}
-use Rattle.integers.specs.Within.{Within, within_is, within_zero, within_add}
-use Rattle.integers.specs.RangeSum.{Σ<, Σ-zero, Σ-suc}
+use Rattle.integers.proofs.Theorems.Ring.{read, ring, comb, ◌⊕◌, ◌⊗◌}
+use Rattle.integers.specs.Within.{Within}
+use Rattle.integers.proofs.Theorems.Within.{within_is, within_zero, within_add}
+use Rattle.integers.specs.RangeSum.{Σ<}
+use Rattle.integers.proofs.Theorems.RangeSum.{Σ-zero, Σ-suc}
 use Rattle.edge.specs.declared.Edge.{Edge}
 use Rattle.edge.specs.Room.{Measured}
 use Rattle.edge.specs.Nested.{OnRange, OnCell}
@@ -32,11 +34,11 @@ use Rattle.rasterize.specs.Nodes.{node_at}
 use Rattle.rasterize.specs.Contribution.{contribution}
 use Rattle.rasterize.specs.Ready.{visits, Spare, OnSheet, ReadyIn}
 use Rattle.rasterize.specs.Views.{part_table, InView}
-use Rattle.rasterize.specs.Laws.Adding.{added-length, added_same, added-added, added-both, added_none}
-use Rattle.rasterize.specs.Laws.Spare.{spare_le, spare_added}
-use Rattle.rasterize.specs.Laws.Contributions.{contribution_within}
-use Rattle.rasterize.specs.Laws.EdgeAdded.{measured_in, edge_entry_lem}
-use Rattle.rasterize.specs.Laws.TurnedEdges.{seen_in_view}
+use Rattle.rasterize.proofs.Laws.Adding.{added-length, added_same, added-added, added-both, added_none}
+use Rattle.rasterize.proofs.Laws.Spare.{spare_le, spare_added}
+use Rattle.rasterize.proofs.Laws.Contributions.{contribution_within}
+use Rattle.rasterize.proofs.Laws.EdgeAdded.{measured_in, edge_entry_lem}
+use Rattle.rasterize.proofs.Laws.TurnedEdges.{seen_in_view}
 use Rattle.contours.specs.declared.Run.{Run}
 use Rattle.contours.specs.Contour.{edge_of, edge_entry, edges_from}
 use Rattle.contours.specs.Runs.{run_levels, widest_run, longest_run, triangle_limit, run_square, run_node, triangle, above, RunReady, chord_of, Along}

@@ -15,34 +15,35 @@ use mir.Syntax.{w64}
 use mir.Val.{SFits}
 use mir.Facts.{sfits_lit}
 use Rattle.integers.specs.Units.{steps_per_pixel, greatest_sheet_coordinate}
-use Rattle.integers.specs.Order.{≤ℤ_trans, pos-≤ℤ}
+use Rattle.integers.proofs.Theorems.Order.{≤ℤ_trans, pos-≤ℤ}
 use Rattle.integers.specs.Within.{Within}
-use Rattle.integers.specs.ListSum.{All, all_map}
+use Rattle.integers.specs.ListSum.{All}
+use Rattle.integers.proofs.Theorems.ListSum.{all_map}
 use Rattle.edge.specs.declared.Edge.{Edge}
 use Rattle.curve.specs.Curve.{OnSheet}
 use Rattle.placement.specs.declared.Placement.{Placement}
 use Rattle.placement.specs.Placed.{placed}
-use Rattle.placement.specs.Laws.PlacedPoints.{placed-length}
+use Rattle.placement.proofs.Laws.PlacedPoints.{placed-length}
 use Rattle.rasterize.specs.Added.{added}
 use Rattle.rasterize.specs.Ready.{Fits}
 use Rattle.rasterize.specs.Views.{InView}
 use Rattle.rasterize.specs.Laws.Sums.{edges_part}
-use Rattle.rasterize.specs.Laws.Fitting.{fits_le, fits_edges}
+use Rattle.rasterize.proofs.Laws.Fitting.{fits_le, fits_edges}
 use Rattle.chords.specs.Sides.{marked_contour}
 use Rattle.chords.specs.Chords.{contour_chords}
-use Rattle.chords.specs.Laws.ClosedChords.{contour_on}
+use Rattle.chords.proofs.Laws.ClosedChords.{contour_on}
 use Rattle.tile.specs.Questions.{Yes, depth_of, question9}
-use Rattle.tile.specs.Refusals.{question6_means}
-use Rattle.tile.specs.Laws.Accepted.{on_side}
-use Rattle.tile.specs.Laws.Room.{in_range-fits}
+use Rattle.tile.proofs.Theorems.Refusals.{question6_means}
+use Rattle.tile.proofs.Laws.Accepted.{on_side}
+use Rattle.tile.proofs.Laws.Room.{in_range-fits}
 use Rattle.sheet.specs.declared.Site.{Site}
 use Rattle.sheet.specs.Sites.{tile_side, reach, view_at}
-use Rattle.sheet.specs.Laws.SiteEdges.{site_side, reach_power, reach-le, site_in_view}
+use Rattle.sheet.proofs.Laws.SiteEdges.{site_side, reach_power, reach-le, site_in_view}
 use Rattle.corrections.specs.declared.Change.{Change}
 use Rattle.corrections.specs.declared.Change.TheVariants.{Put, Take}
 use Rattle.corrections.specs.Corrections.{Tile, sign_of}
 use Rattle.corrections.specs.Amending.{Amendable}
-use Rattle.corrections.specs.Laws.AskedContour.{sign_within, opposite, sign-opposite}
+use Rattle.corrections.proofs.Laws.AskedContour.{sign_within, opposite, sign-opposite}
 
 -- ---- the contour
 module _ {site : Site} {change : Change} {points : List ℤ} {marks : List ℕ} {n : ℕ} {placement : Placement} {t : Tile}

@@ -1,4 +1,8 @@
 -- What the functions' proofs share.
 
+-- what is proved of the definitions of specs/
+pub mod Theorems
+-- laws, as other crates and the proofs of the code know them
+pub mod Laws
 -- a contour added, and taken out again
 pub mod Correcting

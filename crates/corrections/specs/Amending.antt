@@ -6,7 +6,7 @@
 --   amend_questions               13, 9
 --   amend_refusal, amended        the number, and the tile afterwards
 --   Amendable                    what the questions about the contour have answered, of a contour with marks
--- Main results
+-- Main results (the laws among them are in proofs/Theorems/Amending.antt)
 --   same_questions               what a call on a contour of points asks last are these
 use Rattle.std.specs.Prelude.{◌≡◌, refl, List, [], ◌∷◌, ℕ, ◌+◌, ◌≤◌, length, get_or, ℤ, pos, ◌*ℤ◌}
 use Rattle.integers.specs.Units.{most_edges}
@@ -46,7 +46,3 @@ pub record Amendable (site : Site) (change : Change) (points : List ℤ) (marks 
   pub yes6 : Yes (question6 (reach site) (placed placement points))
   pub counted : n ≡ length (contour_chords (marked_contour marks (placed placement points)))
   pub few : already_in change t.edges + n ≤ most_edges
-
--- a contour of points, by its edges
-pub same_questions : (k : Call) (t : Tile) → amend_questions k.site k.change (contour_edges (contour_of k)) k.count t ≡ tile_questions k t
-same_questions k t = refl

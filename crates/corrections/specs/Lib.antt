@@ -9,15 +9,6 @@ pub mod Corrections
 -- the part of it that does not know what kind of contour it is
 pub mod Amending
 pub mod CorrectingRefusals
--- taking out is the inverse of putting in
-pub mod Inverse
 -- ---- what a tile holds, what each call makes of it, the law of a series of calls, and that it holds
 pub mod Holding
 pub mod Series
-pub mod SeriesTheorem
--- what is in can be taken out, so there are such series
-pub mod NotRefused
--- tiles that hold a letter, and the same one traced the other way round
-pub mod EitherWay
--- ---- how it is proved
-pub mod Laws

@@ -1,4 +1,8 @@
 -- What the functions' proofs share.
 
+-- what is proved of the definitions of specs/
+pub mod Theorems
+-- laws, as other crates and the proofs of the code know them
+pub mod Laws
 -- a curve's numerator: its bounds
 pub mod Numerators

@@ -3,8 +3,8 @@
 -- Main results
 --   num_low, num_high            the bounds
 use Rattle.std.proofs.Common.{[], ◌∷◌, ℤ, pos, ◌-ℤ◌, ◌*ℤ◌, ◌≤ℤ◌}
-use Rattle.integers.specs.Order.{≤ℤ-mul, ≤ℤ-mul-nonneg, ≤ℤ-square}
-use Rattle.integers.specs.Linear.{le, ◌&◌, linear, lin≤}
+use Rattle.integers.proofs.Theorems.Order.{≤ℤ-mul, ≤ℤ-mul-nonneg, ≤ℤ-square}
+use Rattle.integers.proofs.Theorems.Linear.{le, ◌&◌, linear, lin≤}
 use Rattle.curve.specs.Curve.{curve_num}
 
 left : {n i : ℤ} → i ≤ℤ n → pos 0 ≤ℤ (n -ℤ i)

@@ -53,25 +53,3 @@ splits u v = splits_from most_splits 0 u v
 -- "Chord ends are rounded to the nearest step, halves towards the larger."
 abbrev pub chord_end : ℤ → ℤ → ℤ → ℕ → ℕ → ℤ
 chord_end p q r k i = round_half_up (curve_num p q r (pos (2 ^ k)) (pos i)) (4 ^ k)
-
--- Checks, by computing. The curve 0, 6, 0 is at 3 half way, where its control polygon is at 6; and 0, 0, 6 at 3/2, a half, which goes to the larger.
-half_way : chord_end (pos 0) (pos 6) (pos 0) 1 1 ≡ pos 3
-unfolding round_half_up floor
-half_way = refl
-
-half_up : chord_end (pos 0) (pos 0) (pos 6) 1 1 ≡ pos 2
-unfolding round_half_up floor
-half_up = refl
-
--- A bend of 4 either way needs one chord, and one of 5 two. 7 splits are needed from one side of the greatest sheet to the other and back.
-one_chord : splits (pos 4) (neg_ℤ (pos 4)) ≡ 0
-unfolding splits_from
-one_chord = refl
-
-two_chords : splits (pos 0) (neg_ℤ (pos 5)) ≡ 1
-unfolding splits_from
-two_chords = refl
-
-most_needed : splits (bend (pos 0) (pos greatest_sheet_coordinate) (pos 0)) (pos 0) ≡ most_splits
-unfolding splits_from
-most_needed = refl

@@ -4,5 +4,3 @@
 pub mod Curve
 -- ---- "no chord leaves its curve by more than one step in x or y"
 pub mod ChordsNear
--- ---- how it is proved, and what else is known of the chords
-pub mod Laws

@@ -3,7 +3,7 @@
 --
 -- Definitions
 --   all_questions k t             what a call asks, in order
--- Main results
+-- Main results (the laws among them are in proofs/Theorems/CurvedRefusals.antt)
 --   CurvedRefusals, curved_refusals    for a tile alone 1, 2, 4, 16, 3, 12, 6, 5, 13, 9; for a tile of a sheet 14, 15, 2, 4, 16, 3, 12, 6, 5, 13, 9
 --   refused_curve                      "A refused call changes nothing."
 use Rattle.std.specs.Prelude.{◌≡◌, List, [], ◌∷◌, ◌++◌, map, ℕ, ◌<◌, length, ℤ}
@@ -11,8 +11,8 @@ use Rattle.std.proofs.Common.{arith}
 use Rattle.integers.specs.Tests.{OneOf}
 use Rattle.placement.specs.declared.Placement.{Placement}
 use Rattle.tile.specs.Questions.{Question}
-use Rattle.tile.specs.Laws.IfDone.{if_refused}
-use Rattle.tile.specs.Laws.FirstNo.{EachNumber, each_number, first_no_among}
+use Rattle.tile.proofs.Laws.IfDone.{if_refused}
+use Rattle.tile.proofs.Laws.FirstNo.{EachNumber, each_number, first_no_among}
 use Rattle.sheet.specs.declared.Site.{Site}
 use Rattle.sheet.specs.declared.Site.TheVariants.{Alone, OnSheet}
 use Rattle.corrections.specs.declared.Change.{Change}
@@ -27,16 +27,3 @@ all_questions k t = curve_call_questions k t ++ amend_questions k.site k.change 
 pub record CurvedRefusals (k : CurveCall) (t : Tile) : Type 0 where
   pub each : EachNumber (correct_curve_refusal k t) [] (all_questions k t)
   pub no_other : OneOf (correct_curve_refusal k t) (0 ∷ map (λ q. q.number) (all_questions k t))
-
-at : (change : Change) (site : Site) (points : List ℤ) (count : ℕ) (marks : List ℕ) (placement : Placement) (t : Tile)
-    → CurvedRefusals (curve_call_of change site points count marks placement) t
-at change (Alone side) points count marks placement t =
-    let qs = all_questions (curve_call_of change (Alone side) points count marks placement) t in record { each = each_number qs tt; no_other = first_no_among qs }
-at change (OnSheet place) points count marks placement t =
-    let qs = all_questions (curve_call_of change (OnSheet place) points count marks placement) t in record { each = each_number qs tt; no_other = first_no_among qs }
-
-pub curved_refusals : (k : CurveCall) (t : Tile) → CurvedRefusals k t
-curved_refusals k t = at k.change k.site k.points k.count k.marks k.placement t
-
-pub refused_curve : (k : CurveCall) (t : Tile) → 0 < correct_curve_refusal k t → corrected_curve k t ≡ t
-refused_curve k t h = if_refused _ t {number = correct_curve_refusal k t} (λ e. omega (arith, h, e))

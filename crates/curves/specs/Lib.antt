@@ -13,17 +13,11 @@ pub mod CurveRefusals
 -- ---- demand 3, with 02's distance of chords from their curves: the claim, and that it holds
 pub mod FaithfulCurves
 pub mod CurveTheorem
--- ---- demand 2: each entry of the table
-pub mod CurveEntries
 -- ---- with every mark 0 it is building without marks
 pub mod NoCurves
 -- ---- putting in and taking out: what the calls answer and leave, and what a tile then holds
 pub mod CurvedCorrections
 pub mod CurvedRefusals
-pub mod CurvedInverse
 pub mod CurvedHolding
 -- the law of a series of corrections in which both kinds of contours are mixed, and that it holds
 pub mod CurvedSeries
-pub mod CurvedSeriesTheorem
--- ---- how it is proved
-pub mod Laws

@@ -18,9 +18,9 @@ use Rattle.edge.specs.Rounded.{rounded_area}
 use Rattle.edge.specs.Cuts.{rows, side_cuts}
 use Rattle.edge.specs.Code.{SamplesClosed, piece_sum, beyond_at, held_at, area_at}
 use Rattle.edge.specs.WalkOf.{IsWalk}
-use Rattle.edge.specs.Lemmas.Ends.{Steady}
-use Rattle.edge.specs.Lemmas.Runs.{Ordered}
-use Rattle.edge.specs.Laws.ClosedArea.{area_no_rows, rows-closed, side_ordered, area_closed}
+use Rattle.edge.proofs.Lemmas.Ends.{Steady}
+use Rattle.edge.proofs.Lemmas.Runs.{Ordered}
+use Rattle.edge.proofs.Laws.ClosedArea.{area_no_rows, rows-closed, side_ordered, area_closed}
 use Rattle.edge.proofs.WalkForm.{every-walk, walk_area, walk-zero}
 use Rattle.edge.proofs.CutForm.{past_samples, samples_closed}
 

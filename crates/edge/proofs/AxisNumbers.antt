@@ -17,19 +17,24 @@ use mir.Syntax.{w64}
 use mir.Val.{SFits}
 use mir.Facts.{to_z-of_z}
 use Rattle.integers.specs.Units.{width_times_extent_limit}
-use Rattle.integers.specs.Order.{≤ℤ-mul-nonneg, ≤ℤ_trans}
-use Rattle.integers.specs.Linear.{le, linear, lin≤}
-use Rattle.integers.specs.Within.{Within, within_le, within_self}
-use Rattle.integers.specs.MinMax.{min, min-≤ˡ, min-greatest}
-use Rattle.integers.specs.Clamp.{clamp, clamp_low, clamp_high}
+use Rattle.integers.proofs.Theorems.Order.{≤ℤ-mul-nonneg, ≤ℤ_trans}
+use Rattle.integers.proofs.Theorems.Linear.{le, linear, lin≤}
+use Rattle.integers.specs.Within.{Within}
+use Rattle.integers.proofs.Theorems.Within.{within_le, within_self}
+use Rattle.integers.specs.MinMax.{min}
+use Rattle.integers.proofs.Theorems.MinMax.{min-≤ˡ, min-greatest}
+use Rattle.integers.specs.Clamp.{clamp}
+use Rattle.integers.proofs.Theorems.Clamp.{clamp_low, clamp_high}
 use Rattle.edge.specs.declared.Axis.{Axis}
 use Rattle.edge.specs.declared.Samples.{Samples}
 use Rattle.edge.specs.Walk.{beyond}
 use Rattle.edge.specs.Room.{extent_limit}
 use Rattle.edge.specs.Code.{AxisRoom, SamplesWithin, Closed, SamplesClosed, beyond_at, near_at, held_at}
 use Rattle.edge.specs.Cuts.{to_side}
-use Rattle.integers.specs.Bits.{back, back_is}
-use Rattle.integers.specs.Held.{Held, held_number, held-add, held-mul, held_back}
+use Rattle.integers.specs.Bits.{back}
+use Rattle.integers.proofs.Theorems.Bits.{back_is}
+use Rattle.integers.specs.Held.{Held}
+use Rattle.integers.proofs.Theorems.Held.{held_number, held-add, held-mul, held_back}
 use Rattle.edge.proofs.Sizes.{difference}
 
 module _ {a : Axis} {side w : ℤ} (r : AxisRoom a side w) where

@@ -11,13 +11,13 @@ use mathlib.Core.List.{[], ◌∷◌}
 use Prim.Native.Nat.{ℕ}
 use lib.IntN.{ℤ, pos, nat_abs, ◌+ℤ◌, ◌-ℤ◌, ◌*ℤ◌}
 use lib.Signed.{◌≤ℤ◌, ◌<ℤ◌, ≤ℤ_refl}
-use Rattle.integers.specs.Ring.{read, ring}
-use Rattle.integers.specs.Order.{≤ℤ_trans}
-use Rattle.integers.specs.Linear.{le, ◌&◌, linear, lin≤}
+use Rattle.integers.proofs.Theorems.Ring.{read, ring}
+use Rattle.integers.proofs.Theorems.Order.{≤ℤ_trans}
+use Rattle.integers.proofs.Theorems.Linear.{le, ◌&◌, linear, lin≤}
 use Rattle.integers.specs.Within.{Within}
 use Rattle.integers.specs.MinMax.{min}
-use Rattle.integers.specs.Clamp.{clamp-inside}
-use Rattle.integers.specs.Tent.{tent-inside}
+use Rattle.integers.proofs.Theorems.Clamp.{clamp-inside}
+use Rattle.integers.proofs.Theorems.Tent.{tent-inside}
 use Rattle.edge.specs.declared.Axis.{Axis}
 use Rattle.edge.specs.declared.Cell.{Cell}
 use Rattle.edge.specs.declared.Samples.{Samples}
@@ -28,11 +28,11 @@ use Rattle.edge.specs.Rounded.{details}
 use Rattle.edge.specs.Code.{Closed, SamplesWithin, SamplesClosed, beyond_at, near_at, piece_sum, numerators_at, rounded_by}
 use Rattle.edge.specs.Cuts.{span, cuts}
 use Rattle.edge.specs.WalkOf.{IsWalk}
-use Rattle.edge.specs.Lemmas.Ends.{Steady}
-use Rattle.edge.specs.Lemmas.Records.{samples_eq, details-eq}
-use Rattle.edge.specs.Lemmas.Runs.{Ordered}
-use Rattle.edge.specs.Lemmas.OneDirection.{ClosedRun}
-use Rattle.edge.specs.Laws.ClosedForm.{x_closed, y_closed, ordered, near-past-closed, past-near-closed, near-near-closed}
+use Rattle.edge.proofs.Lemmas.Ends.{Steady}
+use Rattle.edge.proofs.Lemmas.Records.{samples_eq, details-eq}
+use Rattle.edge.proofs.Lemmas.Runs.{Ordered}
+use Rattle.edge.proofs.Lemmas.OneDirection.{ClosedRun}
+use Rattle.edge.proofs.Laws.ClosedForm.{x_closed, y_closed, ordered, near-past-closed, past-near-closed, near-near-closed}
 use Rattle.edge.proofs.WalkForm.{every-walk, sums_on, walk-details}
 
 -- ---- samples of the definitions

@@ -6,7 +6,8 @@
 use Prim.Native.Nat.{ℕ, ◌*◌}
 use lib.IntN.{ℤ, pos, ◌+ℤ◌, ◌-ℤ◌, ◌*ℤ◌}
 use Rattle.integers.specs.Units.{width_times_extent_limit, numerator_limit}
-use Rattle.integers.specs.Within.{Within, within_add, within_sub, within_mul}
+use Rattle.integers.specs.Within.{Within}
+use Rattle.integers.proofs.Theorems.Within.{within_add, within_sub, within_mul}
 use Rattle.edge.specs.declared.Samples.{Samples}
 use Rattle.edge.specs.Code.{SamplesWithin, piece_sum}
 

@@ -15,9 +15,9 @@ use mathlib.Core.Bool.{Bool, true, false, cond}
 use Prim.Native.Nat.{zero, suc}
 use lib.IntN.{ℤ, pos, negsuc, neg_ℤ, ◌+ℤ◌, ◌-ℤ◌}
 use lib.Signed.{◌≤ℤ◌, ◌<ℤ◌, lt_z}
-use Rattle.integers.specs.Ring.{read, ring}
-use Rattle.integers.specs.Order.{nonneg, ≤ℤ_antisym, lt_z-true, lt_z-false}
-use Rattle.integers.specs.Linear.{le, lt, ◌&◌, linear, lin⊥}
+use Rattle.integers.proofs.Theorems.Ring.{read, ring}
+use Rattle.integers.proofs.Theorems.Order.{nonneg, ≤ℤ_antisym, lt_z-true, lt_z-false}
+use Rattle.integers.proofs.Theorems.Linear.{le, lt, ◌&◌, linear, lin⊥}
 use Rattle.edge.specs.declared.Span.{Span}
 use Rattle.edge.specs.Walk.{extent, sign}
 use Rattle.integers.specs.Magnitude.{abs}

@@ -11,19 +11,23 @@ use mathlib.Core.List.{[], ◌∷◌}
 use Prim.Native.Nat.{◌<◌, ◌^◌}
 use lib.IntN.{ℤ, pos, ◌-ℤ◌}
 use lib.Signed.{◌≤ℤ◌, mag}
-use Rattle.integers.specs.Order.{nonneg, positive, add_one_≤ℤ, ≤ℤ-mul}
-use Rattle.integers.specs.Linear.{le, eq, ◌&◌, none!, linear, lin≤}
+use Rattle.integers.proofs.Theorems.Order.{nonneg, positive, add_one_≤ℤ, ≤ℤ-mul}
+use Rattle.integers.proofs.Theorems.Linear.{le, eq, ◌&◌, none!, linear, lin≤}
 use Rattle.integers.specs.Units.{width_times_extent_limit}
-use Rattle.integers.specs.Magnitude.{abs, abs-nonneg}
-use Rattle.integers.specs.Within.{Within, within_le, within_self, abs_of_within}
+use Rattle.integers.specs.Magnitude.{abs}
+use Rattle.integers.proofs.Theorems.Magnitude.{abs-nonneg}
+use Rattle.integers.specs.Within.{Within}
+use Rattle.integers.proofs.Theorems.Within.{within_le, within_self, abs_of_within}
 use Rattle.edge.specs.declared.Edge.{Edge}
 use Rattle.edge.specs.declared.Cell.{Cell}
 use Rattle.edge.specs.Walk.{extent, dx, ax}
-use Rattle.edge.specs.Laws.StepCount.{extent-pos}
+use Rattle.edge.proofs.Laws.StepCount.{extent-pos}
 use Rattle.edge.specs.Room.{coordinate_limit, extent_limit, Room}
-use Rattle.edge.specs.Laws.Cells.{extent_at_most}
-use Rattle.integers.specs.Bits.{back, back_is, result_is}
-use Rattle.integers.specs.Held.{held_number, Held, held_sub}
+use Rattle.edge.proofs.Laws.Cells.{extent_at_most}
+use Rattle.integers.specs.Bits.{back}
+use Rattle.integers.proofs.Theorems.Bits.{back_is, result_is}
+use Rattle.integers.proofs.Theorems.Held.{held_number, held_sub}
+use Rattle.integers.specs.Held.{Held}
 
 pub coordinate : {x : ℤ} → Within (pos coordinate_limit) x → Held coordinate_limit (back x) x
 coordinate p = held_number tt p

@@ -10,9 +10,9 @@ use mathlib.Core.List.{[], ◌∷◌}
 use Prim.Native.Nat.{ℕ}
 use lib.IntN.{ℤ, pos, nat_abs, ◌+ℤ◌, ◌*ℤ◌}
 use lib.Signed.{◌≤ℤ◌}
-use Rattle.integers.specs.Ring.{read, ring}
+use Rattle.integers.proofs.Theorems.Ring.{read, ring}
 use Rattle.integers.specs.Rounding.{round_half_away}
-use Rattle.integers.specs.RoundHalfAway.{round_half_away_one}
+use Rattle.integers.proofs.Theorems.RoundHalfAway.{round_half_away_one}
 use Rattle.edge.specs.declared.Axis.{Axis}
 use Rattle.edge.specs.declared.Cell.{Cell}
 use Rattle.edge.specs.declared.Details.{Details}
@@ -24,11 +24,11 @@ use Rattle.edge.specs.Rounded.{details, rounded_area}
 use Rattle.edge.specs.Code.{rounded_by}
 use Rattle.edge.specs.Octilinear.{unit_x, unit_y, unit_steps}
 use Rattle.edge.specs.WalkOf.{IsWalk, fine, unit}
-use Rattle.edge.specs.Lemmas.Ends.{Steady, x_steady, y_steady}
-use Rattle.edge.specs.Lemmas.Records.{details-eq}
-use Rattle.edge.specs.Laws.StepCount.{rounded_whole}
-use Rattle.edge.specs.Laws.OctilinearEdges.{unit_area, unit_h, unit_v, unit_d, area_octilinear, h_octilinear, v_octilinear, d_octilinear}
-use Rattle.edge.specs.Laws.WalkInside.{unit_x_steady, unit_y_steady}
+use Rattle.edge.proofs.Lemmas.Ends.{Steady, x_steady, y_steady}
+use Rattle.edge.proofs.Lemmas.Records.{details-eq}
+use Rattle.edge.proofs.Laws.StepCount.{rounded_whole}
+use Rattle.edge.proofs.Laws.OctilinearEdges.{unit_area, unit_h, unit_v, unit_d, area_octilinear, h_octilinear, v_octilinear, d_octilinear}
+use Rattle.edge.proofs.Laws.WalkInside.{unit_x_steady, unit_y_steady}
 
 pub every-walk : (P : Axis → Axis → ℤ → Type 0) → ((a b : Axis) → Steady a → Steady b → (n : ℕ) → P a b (pos n)) → {w : Walk} → IsWalk w
     → P w.x w.y w.steps

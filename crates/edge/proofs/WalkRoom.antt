@@ -16,20 +16,22 @@ use mir.Syntax.{w64}
 use mir.Val.{SFits}
 use mir.Facts.{to_z-of_z}
 use Rattle.integers.specs.Units.{width_times_extent_limit}
-use Rattle.integers.specs.Order.{pos-≤ℤ, ≤_of_pos, nonneg, positive, ≤ℤ-mul, ≤ℤ_trans}
-use Rattle.integers.specs.Linear.{le, eq, ◌&◌, none!, linear, lin≤}
-use Rattle.integers.specs.Within.{Within, within_le, within_mul, within_self}
+use Rattle.integers.proofs.Theorems.Order.{pos-≤ℤ, ≤_of_pos, nonneg, positive, ≤ℤ-mul, ≤ℤ_trans}
+use Rattle.integers.proofs.Theorems.Linear.{le, eq, ◌&◌, none!, linear, lin≤}
+use Rattle.integers.specs.Within.{Within}
+use Rattle.integers.proofs.Theorems.Within.{within_le, within_mul, within_self}
 use Rattle.edge.specs.declared.Axis.{Axis}
 use Rattle.edge.specs.declared.Cell.{Cell}
 use Rattle.edge.specs.declared.Walk.{Walk}
 use Rattle.edge.specs.Walk.{extent, sign, dx, dy}
-use Rattle.edge.specs.Laws.StepCount.{steps_pos}
-use Rattle.edge.specs.Lemmas.Ends.{direction, direction_within}
+use Rattle.edge.proofs.Laws.StepCount.{steps_pos}
+use Rattle.edge.proofs.Lemmas.Ends.{direction, direction_within}
 use Rattle.edge.specs.Octilinear.{unit_steps}
 use Rattle.edge.specs.Room.{coordinate_limit, extent_limit, crossing_limit, Measured, Room}
 use Rattle.edge.specs.Code.{AxisRoom}
 use Rattle.edge.specs.WalkOf.{IsWalk, fine, unit}
-use Rattle.integers.specs.Bits.{back, back_is, fits_within}
+use Rattle.integers.specs.Bits.{back}
+use Rattle.integers.proofs.Theorems.Bits.{back_is, fits_within}
 use Rattle.edge.proofs.Sizes.{difference, extent_within, width≥0, width_high, width_within}
 
 -- ---- one direction

@@ -22,7 +22,3 @@ pub mod WalkOf
 pub mod Cuts
 -- what the functions below the public ones ask and answer
 pub mod Code
--- ---- what is proved of it
-pub mod Laws
--- and on the way
-pub mod Lemmas

@@ -25,9 +25,6 @@ extent_limit = 2 * coordinate_limit
 abbrev pub crossing_limit : ℕ
 crossing_limit = 2 * (extent_limit * extent_limit)
 
-crossing_is : crossing_limit ≡ 2 ^ 59
-crossing_is = refl
-
 pub record Measured (e : Edge) : Type 0 where
   pub x0 : Within (pos coordinate_limit) e.x0
   pub y0 : Within (pos coordinate_limit) e.y0

@@ -8,10 +8,5 @@ pub mod Output
 pub mod Refusals
 -- demand 3: the greys that are printed are at most one from those of the exact areas; and that it holds
 pub mod Printed
-pub mod Theorem
--- 02's wrong-handed tracing: a frame traced the other way round is printed with the same greys
-pub mod EitherWay
 -- ---- what inner functions answer
 pub mod Inner
--- ---- how it is proved
-pub mod Laws

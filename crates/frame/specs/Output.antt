@@ -66,9 +66,6 @@ table_after t table = if_done (frame_refusal t) (over (frame_table (frame_of t))
 abbrev pub table_length : ℕ
 table_length = greatest_side * greatest_side
 
-table_length_is : table_length ≡ 4096
-table_length_is = refl
-
 -- ---- an answer: the text over the start of an array of zeros, and its length
 abbrev pub zeros : ℕ → List ℕ
 zeros n = replicate n 0
@@ -76,9 +73,6 @@ zeros n = replicate n 0
 -- the longest has as many rows as the greatest side
 abbrev pub answer_length : ℕ
 answer_length = summary_length + greatest_side * row_length greatest_side
-
-answer-length_is : answer_length ≡ 8277
-answer-length_is = refl
 
 abbrev pub answer_of : List ℕ → Answer
 answer_of t = record { bytes = over t (zeros answer_length); len = length t }

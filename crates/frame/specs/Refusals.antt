@@ -1,6 +1,6 @@
 -- Demand 1 of the program: when it prints each refusal, in both directions.
 --
--- Main results
+-- Main results (the laws among them are in proofs/Theorems/Refusals.antt)
 --   FrameRefusals, frame_refusals     when each number is that of a text, and that no other comes
 --   prints_refusal                    a refusal is printed where its number is the text's, and only there
 --   refused_keeps                     and the table keeps what it held
@@ -8,13 +8,12 @@ use Rattle.std.specs.Prelude.{◌≡◌, List, [], ◌∷◌, ◌↔◌, ℕ, �
 use Rattle.integers.specs.ListSum.{All}
 use Rattle.tile.specs.Questions.{Yes, No, DecidedBy, question1, question4, question5, question6, question7}
 use Rattle.integers.specs.Tests.{OneOf}
-use Rattle.tile.specs.Laws.IfDone.{if_refused}
-use Rattle.tile.specs.Laws.FirstNo.{each_number, first_no_among}
+use Rattle.tile.proofs.Laws.IfDone.{if_refused}
+use Rattle.tile.proofs.Laws.FirstNo.{each_number, first_no_among}
 use Rattle.frame_text.specs.Over.{over}
 use Rattle.frame_text.specs.Reading.{frame_of}
 use Rattle.frame_text.specs.OutputLines.{refusal_text}
 use Rattle.frame.specs.Output.{question11, frame_questions, frame_refusal, frame_table, output_text, table_after}
-use Rattle.frame.specs.Laws.RefusalLines.{refusal_decides}
 
 pub record FrameRefusals (t : List ℕ) : Type 0 where
   pub accepted : (frame_refusal t ≡ 0) ↔ All Yes (frame_questions t)
@@ -31,25 +30,3 @@ pub record FrameRefusals (t : List ℕ) : Type 0 where
       (question11 t ∷ question1 (frame_of t).side ∷ question4 (frame_of t).counts ∷ question5 (frame_of t).counts ∷ question6 (frame_of t).side (frame_of t).points ∷ [])
       (question7 (frame_of t).side (frame_of t).level)
   pub no_other : OneOf (frame_refusal t) (0 ∷ 11 ∷ 1 ∷ 4 ∷ 5 ∷ 6 ∷ 7 ∷ [])
-
-pub frame_refusals : (t : List ℕ) → FrameRefusals t
-frame_refusals t =
-    let each = each_number (frame_questions t) tt in
-    record {
-      refused11 = each.0;
-      refused1 = each.1.0;
-      refused4 = each.1.1.0;
-      refused5 = each.1.1.1.0;
-      refused6 = each.1.1.1.1.0;
-      refused7 = each.1.1.1.1.1.0;
-      accepted = each.1.1.1.1.1.1;
-      no_other = first_no_among (frame_questions t);
-    }
-
--- different numbers have different lines, and no picture begins like one
-pub prints_refusal : (t : List ℕ) (number : ℕ) → 0 < number → number < 100 → (output_text t ≡ refusal_text number) ↔ (frame_refusal t ≡ number)
-prints_refusal t number h k = refusal_decides t number h k
-
--- "tables and pictures keep what they held"
-pub refused_keeps : (t : List ℕ) (table : List ℤ) → (frame_refusal t ≡ 0 → ⊥) → table_after t table ≡ table
-refused_keeps t table n = if_refused (over (frame_table (frame_of t)) table) table n

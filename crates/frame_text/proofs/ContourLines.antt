@@ -12,8 +12,8 @@ use Rattle.frame_text.specs.Over.{over}
 use Rattle.frame_text.specs.Lines.{lines}
 use Rattle.frame_text.specs.Reading.{coordinates, all_coordinates}
 use Rattle.frame_text.specs.Inner.{line_length, is_body, body_coordinates, body_counts, size_of}
-use Rattle.frame_text.specs.Laws.Over.{over_at, written, written_length, over_entry, over_end}
-use Rattle.frame_text.specs.Laws.Reading.{closed, coordinates-length, body_coordinates_next, body_counts_next}
+use Rattle.frame_text.proofs.Laws.Over.{over_at, written, written_length, over_entry, over_end}
+use Rattle.frame_text.proofs.Laws.Reading.{closed, coordinates-length, body_coordinates_next, body_counts_next}
 
 -- a text, and what the two lists held before
 module _ (body : List ℕ) (points₀ : List ℤ) (counts₀ : List ℕ) where

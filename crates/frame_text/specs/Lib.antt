@@ -13,5 +13,3 @@ pub mod Over
 pub mod RoundTrip
 -- ---- what inner functions answer
 pub mod Inner
--- ---- how it is proved
-pub mod Laws

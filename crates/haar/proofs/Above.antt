@@ -12,13 +12,14 @@ use native.Mathlib.Omega.{arith}
 use native.Mathlib.Nat.{pow-succ', one-le-pow, pow-le-pow_right}
 use lib.ListN.{length, get_or}
 use lib.IntN.{ℤ, pos}
-use Rattle.integers.specs.Bits.{back, back_is}
+use Rattle.integers.specs.Bits.{back}
+use Rattle.integers.proofs.Theorems.Bits.{back_is}
 use Rattle.haar.specs.Cells.{children}
 use Rattle.haar.specs.Table.{stored}
 use Rattle.haar.specs.Plane.{dimensions, figure_in}
 use Rattle.haar.specs.Drawable.{Drawable, DrawableCell}
 use Rattle.haar.specs.Pairs.{Refinable}
-use Rattle.haar.specs.Laws.Quarters.{figure-top}
+use Rattle.haar.proofs.Laws.Quarters.{figure-top}
 
 pub root-inside : {entries : List ℤ} {level : ℕ} → Drawable entries level → 0 < length entries
 root-inside {level = level} d = omega (arith, d.long, one-le-pow level (children dimensions) (omega arith))

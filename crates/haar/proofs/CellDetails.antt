@@ -14,17 +14,18 @@ use native.Mathlib.Nat.{pow-succ', pow-le-pow_right, mul-le-mul_right}
 use lib.ListN.{length, get_or}
 use lib.IntN.{ℤ, pos, ◌*ℤ◌}
 use Rattle.integers.specs.Units.{greatest_depth, entry_limit}
-use Rattle.integers.specs.Ring.{read, ring}
-use Rattle.integers.specs.Order.{pos-≤ℤ, nonneg}
-use Rattle.integers.specs.Within.{Within, within_is, within_le, within_self}
+use Rattle.integers.proofs.Theorems.Ring.{read, ring}
+use Rattle.integers.proofs.Theorems.Order.{pos-≤ℤ, nonneg}
+use Rattle.integers.specs.Within.{Within}
+use Rattle.integers.proofs.Theorems.Within.{within_is, within_le, within_self}
 use Rattle.integers.specs.HalfSign.{half_sign}
 use Rattle.haar.specs.Cells.{children}
 use Rattle.haar.specs.Table.{index, stored}
 use Rattle.haar.specs.Plane.{dimensions, h_detail, v_detail, d_detail, at, figure_at, figure_in}
 use Rattle.haar.specs.Pairs.{Refinable, scale_limit, parent_limit, pair_of, IsPair}
-use Rattle.haar.specs.Laws.Layout.{index_plane, index_high}
-use Rattle.haar.specs.Laws.Quarters.{quarter_figure, figure-quarter}
-use Rattle.haar.specs.Laws.FigureLimit.{figure_in_range}
+use Rattle.haar.proofs.Laws.Layout.{index_plane, index_high}
+use Rattle.haar.proofs.Laws.Quarters.{quarter_figure, figure-quarter}
+use Rattle.haar.proofs.Laws.FigureLimit.{figure_in_range}
 
 -- the first of a cell's entries, with two more after it
 pub record CellDetails (entries : List ℤ) (first : ℕ) : Type 0 where

@@ -11,7 +11,7 @@ use Rattle.integers.specs.Units.{greatest_depth}
 use Rattle.haar.specs.Cells.{children}
 use Rattle.haar.specs.Plane.{dimensions}
 use Rattle.haar.specs.Pairs.{scale_limit}
-use Rattle.haar.specs.Laws.Cells.{level_square}
+use Rattle.haar.proofs.Laws.Cells.{level_square}
 
 pub record LevelNumbers (level n : ℕ) : Type 0 where
   pub across : n ≤ 2 ^ (greatest_depth - 1)

@@ -1,5 +1,9 @@
 -- What the functions' proofs share.
 
+-- what is proved of the definitions of specs/
+pub mod Theorems
+-- laws, as other crates and the proofs of the code know them
+pub mod Laws
 -- how large a level's numbers are
 pub mod LevelNumbers
 -- a cell's details, and the figures of two children

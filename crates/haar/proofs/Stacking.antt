@@ -17,8 +17,8 @@ use Rattle.haar.specs.Cells.{children}
 use Rattle.haar.specs.Table.{stored}
 use Rattle.haar.specs.Plane.{dimensions, figure_in, picture_in}
 use Rattle.haar.specs.Pyramid.{places, pyramid_in}
-use Rattle.haar.specs.Laws.Pictures.{picture_of_entries, picture-length}
-use Rattle.haar.specs.Laws.Pyramid.{places_one, places_next, pyramid_one, pyramid_next}
+use Rattle.haar.proofs.Laws.Pictures.{picture_of_entries, picture-length}
+use Rattle.haar.proofs.Laws.Pyramid.{places_one, places_next, pyramid_one, pyramid_next}
 
 pub root-picture : {A : Type 0} (o : A) (g : ℤ → A) (entries : List ℤ) (l : List A) {v : A} → 0 < length l → v ≡ g (figure_in entries 0 0 0)
     → take 1 (set l 0 v) ≡ picture_in g entries 0

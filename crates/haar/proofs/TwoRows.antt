@@ -20,7 +20,7 @@ use Rattle.haar.specs.Cells.{children}
 use Rattle.haar.specs.Plane.{dimensions, figure_in}
 use Rattle.haar.specs.Pairs.{IsPair}
 use Rattle.haar.specs.Levels.{put_pair, DrawableBelow, RowsBelow}
-use Rattle.haar.specs.Laws.Cells.{level_square}
+use Rattle.haar.proofs.Laws.Cells.{level_square}
 use Rattle.haar.specs.declared.Pair.{Pair}
 
 -- ---- a pair in a list

@@ -36,20 +36,6 @@ grey side num den = ink_grey side (abs num) den
 abbrev pub grey_of : ℕ → ℤ → ℕ
 grey_of side f = grey side f 1
 
--- Checks, on a tile of one pixel. Half of it is 127 1/2 greys: were the quotient rounded, and then its magnitude taken, then below zero it would be 127, and
--- not 128.
-half_pixel : grey_of 1 (pos 65536) ≡ 128
-unfolding min max abs floor round_half_up clamp ink_grey grey
-half_pixel = refl
-
-half_pixel_below : grey_of 1 (neg_ℤ (pos 65536)) ≡ 128
-unfolding min max abs floor round_half_up clamp ink_grey grey
-half_pixel_below = refl
-
-full_pixel_below : grey_of 1 (neg_ℤ (pos units_per_pixel)) ≡ full_grey
-unfolding min max abs floor round_half_up clamp ink_grey grey
-full_pixel_below = refl
-
 pub record OneApart (a b : ℕ) : Type 0 where
   pub up : a ≤ b + 1
   pub down : b ≤ a + 1

@@ -19,5 +19,3 @@ pub mod Pairs
 pub mod Levels
 -- all levels in one list
 pub mod Pyramid
--- laws
-pub mod Laws

@@ -15,11 +15,12 @@ use lib.Seq.{length-take-le, get_or-set_same, get_or-set_other}
 use lib.Pow.{pow_pos}
 use lib.IntN.{ℤ, pos}
 use Rattle.integers.specs.Units.{greatest_depth, entry_limit}
-use Rattle.integers.specs.Within.{Within, within_is, within_zero}
+use Rattle.integers.specs.Within.{Within}
+use Rattle.integers.proofs.Theorems.Within.{within_is, within_zero}
 use Rattle.haar.specs.Cells.{children}
 use Rattle.haar.specs.Plane.{dimensions}
 use Rattle.haar.specs.Drawable.{InRange, Drawable, DrawableCell, DrawablePicture}
-use Rattle.haar.specs.Laws.Cells.{level_square}
+use Rattle.haar.proofs.Laws.Cells.{level_square}
 use Rattle.haar_vectors.specs.Entries.{Entries}
 
 blank_in_range : (n : ℕ) → InRange (replicate n (pos 0))

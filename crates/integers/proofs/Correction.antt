@@ -8,12 +8,14 @@ use mathlib.Core.List.{[], ◌∷◌}
 use mathlib.Core.Logic.{◌⊎◌, inl, inr}
 use lib.IntN.{ℤ, pos, neg_ℤ, neg_ℤ-neg_ℤ, nat_abs, ◌+ℤ◌, ◌-ℤ◌, ◌*ℤ◌}
 use lib.Signed.{◌≤ℤ◌, ◌<ℤ◌}
-use Rattle.integers.specs.Ring.{read, ring}
-use Rattle.integers.specs.Order.{≤ℤ_or_<ℤ, ≤ℤ_of_<ℤ, add_one_≤ℤ, ≤ℤ-mul}
-use Rattle.integers.specs.Linear.{le, lt, eq, ◌&◌, linear, lin≤, lin<, lin⊥}
-use Rattle.integers.specs.Division.{Truncated, truncated-neg}
+use Rattle.integers.proofs.Theorems.Ring.{read, ring}
+use Rattle.integers.proofs.Theorems.Order.{≤ℤ_or_<ℤ, ≤ℤ_of_<ℤ, add_one_≤ℤ, ≤ℤ-mul}
+use Rattle.integers.proofs.Theorems.Linear.{le, lt, eq, ◌&◌, linear, lin≤, lin<, lin⊥}
+use Rattle.integers.specs.Division.{Truncated}
+use Rattle.integers.proofs.Theorems.Division.{truncated-neg}
 use Rattle.integers.specs.Rounding.{round_half_away}
-use Rattle.integers.specs.RoundHalfAway.{ErrorBounds, error_neg, round_half_away_of_bounds'}
+use Rattle.integers.specs.RoundHalfAway.{ErrorBounds}
+use Rattle.integers.proofs.Theorems.RoundHalfAway.{error_neg, round_half_away_of_bounds'}
 
 module _ {n d q r : ℤ} (t : Truncated n d q r) (h : pos 0 <ℤ d) (k : d ≤ℤ (pos 2 *ℤ r)) where
   -- a remainder above zero is that of a number above zero

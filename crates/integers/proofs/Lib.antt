@@ -1,2 +1,6 @@
+-- What is proved.
+
+-- what is proved of the definitions of specs/
+pub mod Theorems
 -- What the functions' proofs share.
 pub mod Correction

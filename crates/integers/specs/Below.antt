@@ -1,6 +1,6 @@
 -- A test that holds of every number below k, computed once, holds of each.
 --
--- Main results
+-- Main results (the laws among them are in proofs/Theorems/Below.antt)
 --   all_below test k              the test holds of every number below k
 --   below                        and so of each of them: `below test k refl n h`
 --   both                         two tests that hold together hold each
@@ -12,15 +12,3 @@ use Rattle.std.proofs.Math.Decide.{dec_lt}
 unfoldable pub all_below : (ℕ → Bool) → ℕ → Bool
 all_below test zero = true
 all_below test (suc k) = test k && all_below test k
-
-pub both : (a b : Bool) → (a && b) ≡ true → (a ≡ true) × (b ≡ true)
-both true true e = (e, e)
-both true false e = absurd (true≢false (sym e))
-both false b e = absurd (true≢false (sym e))
-
-pub below : (test : ℕ → Bool) (k : ℕ) → all_below test k ≡ true → (n : ℕ) → n < k → test n ≡ true
-unfolding all_below
-below test zero t n h = absurd (omega arith)
-below test (suc k) t n h =
-    let b = both (test k) (all_below test k) t in
-    elim (dec_lt n k) [ yes p ↦ below test k b.1 n p | no p ↦ (let e : n ≡ k = omega arith in subst⁻¹ (λ m. test m ≡ true) e b.0) ]

@@ -1,6 +1,6 @@
 -- The sign of a half: a Haar detail counts plus in the first half of a direction and minus in the second.
 --
--- Main results
+-- Main results (the laws among them are in proofs/Theorems/HalfSign.antt)
 --   half_sign                        1 in half 0, −1 in half 1
 --   half_sign_cases                  it is one of the two, in a half that there is
 use Rattle.std.specs.Prelude.{◌≡◌, refl, ◌⊎◌, ℕ, zero, suc, ◌<◌, ℤ, pos, negsuc, ◌-ℤ◌, ◌*ℤ◌}
@@ -8,8 +8,3 @@ use Rattle.std.proofs.Common.{inl, inr, arith}
 
 abbrev pub half_sign : ℕ → ℤ
 half_sign b = pos 1 -ℤ pos 2 *ℤ pos b
-
-pub half_sign_cases : (b : ℕ) → b < 2 → (half_sign b ≡ pos 1) ⊎ (half_sign b ≡ negsuc 0)
-half_sign_cases zero h = inl refl
-half_sign_cases (suc zero) h = inr refl
-half_sign_cases (suc (suc b)) h = absurd (omega arith)

@@ -1,6 +1,6 @@
 -- What the machine holds, by the number that it is and a bound of it: sums, differences and products of such are such again, and fit.
 --
--- Main results
+-- Main results (the laws among them are in proofs/Theorems/Held.antt)
 --   Held                                            z is v, which lies within b
 --   held_number                                     a number within a bound, as it is read back
 --   held-add, held_sub, held-neg, held-mul          what an operation gives
@@ -10,37 +10,9 @@ use Rattle.std.specs.Prelude.{◌≡◌, [], ◌∷◌, ℕ, ◌+◌, ◌*◌, T
 use Rattle.std.proofs.Common.{◌∙◌, ap, ap₂, SFits}
 use Rattle.std.proofs.Math.Path.{subst⁻¹}
 use Rattle.std.specs.Int.{w64}
-use Rattle.integers.specs.Ring.{read, ring}
-use Rattle.integers.specs.Within.{Within, within_add, within_sub, within_neg, within_mul}
-use Rattle.integers.specs.Machine.{known}
-use Rattle.integers.specs.Bits.{back, greatest, fits_within, back_is}
+use Rattle.integers.specs.Within.{Within}
+use Rattle.integers.specs.Bits.{back, greatest}
 
 pub record Held (b : ℕ) (z v : ℤ) : Type 0 where
   pub is : z ≡ v
   pub within : Within (pos b) v
-
--- `b` is a closed number, so the test computes: `held_number tt`
-pub held_number : {b : ℕ} {z : ℤ} → T (leb b greatest) → Within (pos b) z → Held b (back z) z
-held_number t w = record { is = back_is t w; within = w }
-
-pub held-add : {a b : ℕ} {y z u v : ℤ} → Held a y u → Held b z v → Held (a + b) (y +ℤ z) (u +ℤ v)
-held-add p q = record { is = ap₂ ◌+ℤ◌ p.is q.is; within = within_add p.within q.within }
-
-pub held_sub : {a b : ℕ} {y z u v : ℤ} → Held a y u → Held b z v → Held (a + b) (y -ℤ z) (u -ℤ v)
-held_sub p q = record { is = ap₂ ◌-ℤ◌ p.is q.is; within = within_sub p.within q.within }
-
-pub held-mul : {a b : ℕ} {y z u v : ℤ} → Held a y u → Held b z v → Held (a * b) (y *ℤ z) (u *ℤ v)
-held-mul p q = record { is = ap₂ ◌*ℤ◌ p.is q.is; within = within_mul p.within q.within }
-
-pub held-neg : {b : ℕ} {z v : ℤ} → Held b z v → Held b (pos 0 -ℤ z) (neg_ℤ v)
-held-neg {b} {z} {v} p = record { is = ap (λ x. pos 0 -ℤ x) p.is ∙ ring (v ∷ []) (search read depth 40) tt; within = within_neg p.within }
-
--- and so here: `held_fits tt`
-pub held_fits : {b : ℕ} {z v : ℤ} → T (leb b greatest) → Held b z v → SFits w64 z
-held_fits t p = subst⁻¹ (SFits w64) p.is (fits_within t p.within)
-
-pub held_back : {b : ℕ} {z v : ℤ} → T (leb b greatest) → Held b z v → Held b (back z) v
-held_back t p = record { is = known (held_fits t p) p.is; within = p.within }
-
-pub held_within : {b : ℕ} {z v : ℤ} → Held b z v → Within (pos b) z
-held_within {b} p = subst⁻¹ (Within (pos b)) p.is p.within

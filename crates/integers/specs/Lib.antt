@@ -2,8 +2,6 @@
 
 -- 01's and 02's numbers, by name
 pub mod Units
--- equations of polynomials, proved in one line: `ring`, `comb`
-pub mod RingLaws
 pub mod Polynomial
 pub mod Ring
 -- inequalities, proved in one line: `lin≤`, `lin<`, `lin≡`, `lin⊥`
@@ -13,8 +11,6 @@ pub mod Linear
 -- the machine's signed integers: `linfits`, comparisons, division
 pub mod Machine
 pub mod Division
--- each of these at work
-pub mod Tour
 -- a test of all numbers below one
 pub mod Below
 -- magnitude and bounds
@@ -37,15 +33,11 @@ pub mod Trapezoid
 pub mod ListSum
 -- what a test says; a test and then another, and a test of every element, as code has them
 pub mod Tests
-pub mod Conjunction
-pub mod Every
 -- a search that ends at the first element that fails a test
 pub mod Search
 -- the two roundings
 pub mod Rounding
 pub mod RoundHalfAway
-pub mod NearestAway
 pub mod RoundHalfUp
 -- sums of fractions, exact and rounded term by term
 pub mod Fraction
-pub mod RoundedSum

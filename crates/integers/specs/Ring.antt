@@ -1,6 +1,6 @@
 -- `ring` and `comb`: equations of integer polynomials, read off the goal.
 --
--- Main results
+-- Main results (the laws among them are in proofs/Theorems/Ring.antt)
 --   ring (x ∷ y ∷ []) (search read depth 40) tt                 a = b, where both are sums and products of the atoms listed
 --   comb (x ∷ y ∷ []) (e ⊕ k ⊗ f) (search read depth 40) tt     a = b, where a − b is the difference of the given equation's sides
 -- The list names the atoms: any terms of type ℤ, at most sixteen, in any order. What is no sum, difference, product, negation,
@@ -12,16 +12,13 @@
 use Rattle.std.specs.Prelude.{◌≡◌, refl, List, ◌∷◌, ℕ, suc, ◌+◌, ◌*◌, T, eqb, ℤ, pos, negsuc, neg_ℤ, ◌+ℤ◌, ◌-ℤ◌, ◌*ℤ◌}
 use Rattle.std.proofs.Common.{sym, ◌∙◌, ap, ap₂, add-one}
 use Rattle.std.proofs.Math.IntN.{+ℤ-neg_ℤ_cancel, +ℤ_comm}
-use Rattle.integers.specs.Polynomial.{Expr, var, lit, ◌⊞◌, ◌⊠◌, ⊖◌, ⟦◌⟧, Same, same_value}
+use Rattle.integers.specs.Polynomial.{Expr, var, lit, ◌⊞◌, ◌⊠◌, ⊖◌, ⟦◌⟧, Same}
 
 pub data Reads (ρ : List ℤ) (z : ℤ) : Type 0 where
   reads : (e : Expr) → ⟦◌⟧ e ρ ≡ z → Reads ρ z
 
 abbrev pub expr : {ρ : List ℤ} {z : ℤ} → Reads ρ z → Expr
 expr (reads e p) = e
-
-pub expr_value : {ρ : List ℤ} {z : ℤ} (r : Reads ρ z) → ⟦◌⟧ (expr r) ρ ≡ z
-expr_value (reads e p) = p
 
 -- ---- an operation
 abbrev pub read_add : {ρ : List ℤ} {a b : ℤ} → Reads ρ a → Reads ρ b → Reads ρ (a +ℤ b)
@@ -114,30 +111,9 @@ pub data Sides (ρ : List ℤ) (a b : ℤ) : Type 0 where
 abbrev pub Balanced : {ρ : List ℤ} {a b : ℤ} → Sides ρ a b → Type 0
 Balanced (sides p q) = Same (expr p) (expr q)
 
-pub ring : {a b : ℤ} (ρ : List ℤ) (s : Sides ρ a b) → Balanced s → a ≡ b
-ring ρ (sides p q) t = sym (expr_value p) ∙ same_value ρ (expr p) (expr q) t ∙ expr_value q
-
 -- ---- an equation a = b from another, c = d: a + d and c + b are the same polynomial
 pub data Equations (ρ : List ℤ) (a b c d : ℤ) : Type 0 where
   equations : Reads ρ a → Reads ρ b → Reads ρ c → Reads ρ d → Equations ρ a b c d
 
 abbrev pub Follows : {ρ : List ℤ} {a b c d : ℤ} → Equations ρ a b c d → Type 0
 Follows (equations p q r s) = Same (expr p ⊞ expr s) (expr r ⊞ expr q)
-
-follows : (a b c d : ℤ) → a +ℤ d ≡ c +ℤ b → c ≡ d → a ≡ b
-follows a b c d h e = sym (+ℤ-neg_ℤ_cancel a d) ∙ ap (λ x. x -ℤ d) (h ∙ ap (λ x. x +ℤ b) e ∙ +ℤ_comm d b) ∙ +ℤ-neg_ℤ_cancel b d
-
-pub comb : {a b c d : ℤ} (ρ : List ℤ) → c ≡ d → (s : Equations ρ a b c d) → Follows s → a ≡ b
-comb {a} {b} {c} {d} ρ h (equations p q r s) t =
-    follows a b c d (sym (ap₂ ◌+ℤ◌ (expr_value p) (expr_value s)) ∙ same_value ρ (expr p ⊞ expr s) (expr r ⊞ expr q) t ∙ ap₂ ◌+ℤ◌ (expr_value r) (expr_value q)) h
-
--- the given equation, put together: sums of equations, and multiples
-infixl 6 ◌⊕◌
-infixl 7 ◌⊗◌
-pub ◌⊕◌ : {a b c d : ℤ} → a ≡ b → c ≡ d → a +ℤ c ≡ b +ℤ d
-p ⊕ q = ap₂ ◌+ℤ◌ p q
-
-pub ◌⊗◌ : {a b : ℤ} (k : ℤ) → a ≡ b → k *ℤ a ≡ k *ℤ b
-k ⊗ p = ap (λ x. k *ℤ x) p
-
-pub ruleset read = (atom0, atom1, atom2, atom3, atom4, atom5, atom6, atom7, atom8, atom9, atom10, atom11, atom12, atom13, atom14, atom15, read_add, read_mul, read_neg, read_pos, read_negsuc, read_pos-add, read_pos-mul, read_pos-suc, read_negsuc_open, read_unit, sides, equations)

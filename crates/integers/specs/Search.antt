@@ -4,7 +4,7 @@
 -- Definitions
 --   looked_at test l                        how many elements the search looks at: one more than the place of the first that fails, or all
 --   LeastFailing P d l i                   i is the least place of l whose element does not have the property P
--- Main results
+-- Main results (the laws among them are in proofs/Theorems/Search.antt)
 --   least_or_all                           the count is one more than the least place whose element fails, or all where there is none
 --   looked_least                           not all pass, and one more than i were looked at: exactly where i is the least place whose element fails
 --   looked_all                             all pass, and all were looked at: exactly where every element has the property
@@ -14,7 +14,7 @@
 use Rattle.std.specs.Prelude.{◌≡◌, refl, ◌↔◌, ◌⊎◌, Bool, true, false, ◌&&◌, cond, List, [], ◌∷◌, ◌++◌, ℕ, zero, suc, ◌+◌, ◌<◌, ◌≤◌, length, get_or, take, drop}
 use Rattle.std.proofs.Common.{sym, ◌∙◌, ap, inl, inr, true≢false, add-one, arith, drop_of_length-le, drop-cons}
 use Rattle.integers.specs.ListSum.{All}
-use Rattle.integers.specs.Tests.{every, every_means}
+use Rattle.integers.specs.Tests.{every}
 
 abbrev pub looked_at : {A : Type 0} → (A → Bool) → List A → ℕ
 looked_at test [] = 0
@@ -23,105 +23,3 @@ looked_at test (a ∷ l) = cond (test a) (suc (looked_at test l)) 1
 -- `get_or` wants a default, `d`, for places past the end; i and those before it are places of l
 abbrev pub LeastFailing : {A : Type 0} (P : A → Type 0) → A → List A → ℕ → Type 0
 LeastFailing P d l i = (i < length l) × ((j : ℕ) → j < i → P (get_or l j d)) × (P (get_or l i d) → ⊥)
-
--- ---- the count, where not all pass and where all do
-module _ {A : Type 0} (test : A → Bool) where
-  some_looked_at : (l : List A) → every test l ≡ false → looked_at test l ≡ 0 → ⊥
-  some_looked_at [] e n = true≢false e
-  some_looked_at (a ∷ l) e n = go (test a) n
-    where
-      go : (b : Bool) → cond b (suc (looked_at test l)) 1 ≡ 0 → ⊥
-      go true n = omega (arith, n)
-      go false n = omega (arith, n)
-
-  last_looked_at : (l : List A) → every test l ≡ false → (i : ℕ) × (looked_at test l ≡ suc i)
-  last_looked_at l e = go (looked_at test l) refl
-    where
-      go : (n : ℕ) → looked_at test l ≡ n → (i : ℕ) × (looked_at test l ≡ suc i)
-      go zero n = absurd (some_looked_at l e n)
-      go (suc i) n = (i, n)
-
-  all_looked_at : (l : List A) → every test l ≡ true → looked_at test l ≡ length l
-  all_looked_at [] e = refl
-  all_looked_at (a ∷ l) e = go (test a) (all_looked_at l) e
-    where
-      go : (b : Bool) → (every test l ≡ true → looked_at test l ≡ length l) → (b && every test l) ≡ true
-          → cond b (suc (looked_at test l)) 1 ≡ suc (length l)
-      go true rest e = ap suc (rest e)
-      go false rest e = absurd (true≢false (sym e))
-
--- ---- what the two answers say together, of a test that decides a property
-module _ {A : Type 0} (test : A → Bool) {P : A → Type 0} (means : (a : A) → (test a ≡ true) ↔ P a) where
-  -- from left to right the first answer is enough
-  pub looked_all : (l : List A) → ((every test l ≡ true) × (looked_at test l ≡ length l)) ↔ All P l
-  looked_all l = (λ h. (every_means test means l).0 h.0, λ h. let e = (every_means test means l).1 h in (e, all_looked_at test l e))
-
-  module _ (d : A) where
-    -- with an element more in front, which has the property
-    least_there : (a : A) (l : List A) (i : ℕ) → P a → LeastFailing P d l i ↔ LeastFailing P d (a ∷ l) (suc i)
-    least_there a l i p = (λ h. (omega (arith, h.0), before h, h.2), λ h. (omega (arith, h.0), λ j k. h.1 (suc j) (omega (arith, k)), h.2))
-      where
-        before : LeastFailing P d l i → (j : ℕ) → j < suc i → P (get_or (a ∷ l) j d)
-        before h zero k = p
-        before h (suc j) k = h.1 j (omega (arith, k))
-
-    pub looked_least : (l : List A) (i : ℕ) → ((every test l ≡ false) × (looked_at test l ≡ suc i)) ↔ LeastFailing P d l i
-    looked_least [] i = (λ h. absurd (true≢false h.0), λ h. absurd (omega (arith, h.0)))
-    looked_least (a ∷ l) i = go (test a) (means a) (looked_least l) i
-      where
-        go : (b : Bool) → ((b ≡ true) ↔ P a) → ((i : ℕ) → ((every test l ≡ false) × (looked_at test l ≡ suc i)) ↔ LeastFailing P d l i)
-            → (i : ℕ) → (((b && every test l) ≡ false) × (cond b (suc (looked_at test l)) 1 ≡ suc i)) ↔ LeastFailing P d (a ∷ l) i
-        go true m rest zero = (λ h. absurd (some_looked_at test l h.0 (omega (arith, h.1))), λ h. absurd (h.2 (m.0 refl)))
-        go true m rest (suc i) =
-            let there = least_there a l i (m.0 refl) in
-            (λ h. there.0 ((rest i).0 (h.0, omega (arith, h.1))), λ h. let e = (rest i).1 (there.1 h) in (e.0, ap suc e.1))
-        go false m rest zero = (λ h. (omega arith, λ j k. absurd (omega (arith, k)), λ p. true≢false (sym (m.1 p))), λ h. (refl, refl))
-        go false m rest (suc i) = (λ h. absurd (omega (arith, h.1)), λ h. absurd (true≢false (sym (m.1 (h.1 0 (omega arith))))))
-
-    pub least_or_all : (l : List A) → ((i : ℕ) × LeastFailing P d l i × (looked_at test l ≡ suc i)) ⊎ (All P l × (looked_at test l ≡ length l))
-    least_or_all l = go (every test l) refl
-      where
-        go : (b : Bool) → every test l ≡ b → ((i : ℕ) × LeastFailing P d l i × (looked_at test l ≡ suc i)) ⊎ (All P l × (looked_at test l ≡ length l))
-        go true e = inr ((every_means test means l).0 e, all_looked_at test l e)
-        go false e = let n = last_looked_at test l e in inl (n.0, (looked_least l n.0).0 (e, n.1), n.1)
-
--- ---- what the count does not tell, and what the answers do not need
-module _ {A : Type 0} (test : A → Bool) where
-  pub looked_last : (l : List A) (a b : A) → looked_at test (l ++ (a ∷ [])) ≡ looked_at test (l ++ (b ∷ []))
-  looked_last [] a b = one (test a) ∙ sym (one (test b))
-    where
-      one : (passes : Bool) → cond passes (suc 0) 1 ≡ suc 0
-      one true = refl
-      one false = refl
-  looked_last (x ∷ l) a b = ap (λ n. cond (test x) (suc n) 1) (looked_last l a b)
-
-  pub rest_immaterial : (l rest : List A) → every test l ≡ false
-      → (every test (take (looked_at test l) l ++ rest) ≡ false) × (looked_at test (take (looked_at test l) l ++ rest) ≡ looked_at test l)
-  rest_immaterial [] rest e = absurd (true≢false e)
-  rest_immaterial (a ∷ l) rest e = go (test a) refl (rest_immaterial l rest) e
-    where
-      go : (b : Bool) → test a ≡ b
-          → (every test l ≡ false
-          → (every test (take (looked_at test l) l ++ rest) ≡ false) × (looked_at test (take (looked_at test l) l ++ rest) ≡ looked_at test l))
-          → (b && every test l) ≡ false
-          → (let n = cond b (suc (looked_at test l)) 1 in
-          (every test (take n (a ∷ l) ++ rest) ≡ false) × (looked_at test (take n (a ∷ l) ++ rest) ≡ n))
-      go true t shorter e =
-          let h = shorter e in
-          let others = take (looked_at test l) l ++ rest in
-          (ap (λ b. b && every test others) t ∙ h.0, ap (λ b. cond b (suc (looked_at test others)) 1) t ∙ ap suc h.1)
-      go false t shorter e = (ap (λ b. b && every test rest) t, ap (λ b. cond b (suc (looked_at test rest)) 1) t)
-
--- ---- what is left to look at from i on
-module _ {A : Type 0} (test : A → Bool) (d : A) (xs : List A) (i : ℕ) where
-  looked_from : {b : Bool} → i < length xs → test (get_or xs i d) ≡ b → looked_at test (drop i xs) ≡ cond b (suc (looked_at test (drop (suc i) xs))) 1
-  looked_from h e = ap (looked_at test) (drop-cons xs i d h) ∙ ap (λ b. cond b (suc (looked_at test (drop (suc i) xs))) 1) e
-
-  pub looked_fails : i < length xs → test (get_or xs i d) ≡ false → looked_at test (drop i xs) ≡ 1
-  looked_fails h e = looked_from h e
-
-  pub looked_next : i < length xs → test (get_or xs i d) ≡ true → looked_at test (drop i xs) ≡ suc (looked_at test (drop (i + 1) xs))
-  looked_next h e = looked_from h e ∙ ap (λ k. suc (looked_at test (drop k xs))) (sym (add-one i))
-
-  pub looked_end : length xs ≤ i → looked_at test (drop i xs) ≡ 0
-  looked_end h = ap (looked_at test) (drop_of_length-le xs h)

@@ -27,9 +27,6 @@ units_per_half_square_step = 1
 abbrev pub units_per_pixel : ℕ
 units_per_pixel = units_per_half_square_step * (2 * (steps_per_pixel * steps_per_pixel))
 
-pixel_is : units_per_pixel ≡ 131072
-pixel_is = refl
-
 -- ---- the tile: "a square of side 1 to 64 pixels", a power of two; "Depth runs from 0 to 6."
 abbrev pub greatest_depth : ℕ
 greatest_depth = 6
@@ -37,15 +34,9 @@ greatest_depth = 6
 abbrev pub greatest_side : ℕ
 greatest_side = 2 ^ greatest_depth
 
-side_is : greatest_side ≡ 64
-side_is = refl
-
 -- "A point has whole x and y from 0 to 256 × side": the greatest that a tile has
 abbrev pub greatest_coordinate : ℕ
 greatest_coordinate = steps_per_pixel * greatest_side
-
-coordinate_is : greatest_coordinate ≡ 16384
-coordinate_is = refl
 
 -- ---- the outline: "Is every count from 3 to 1,024?" Fewer than three points enclose nothing, and no contour has more points than an outline has edges.
 abbrev pub fewest_points : ℕ
@@ -62,9 +53,6 @@ most_edges = 1024
 abbrev pub width_times_extent_limit : ℕ
 width_times_extent_limit = greatest_coordinate * greatest_coordinate
 
-width_times_extent_is : width_times_extent_limit ≡ 2 ^ 28
-width_times_extent_is = refl
-
 -- ---- the sheet (02, P5): "a sheet of side up to 128 pixels, a power of two", and on it "one tile of side up to 32"
 abbrev pub greatest_sheet_side : ℕ
 greatest_sheet_side = 128
@@ -78,13 +66,6 @@ greatest_tile_depth = 5
 abbrev pub greatest_tile_side : ℕ
 greatest_tile_side = 2 ^ greatest_tile_depth
 
-tile_side_is : greatest_tile_side ≡ 32
-tile_side_is = refl
-
--- The sheet is twice as wide as 01's greatest tile, and its tiles half as wide: so an edge's extent times a cell's width is no larger there.
-sheet_times_tile_is : greatest_sheet_coordinate * (steps_per_pixel * greatest_tile_side) ≡ width_times_extent_limit
-sheet_times_tile_is = refl
-
 -- ---- what comes of it
 -- what an edge adds to an entry at most, in units: its extent times a cell's width
 abbrev pub detail_limit : ℕ
@@ -94,9 +75,6 @@ detail_limit = units_per_half_square_step * width_times_extent_limit
 abbrev pub numerator_limit : ℕ
 numerator_limit = units_per_half_square_step * (2 * (width_times_extent_limit * width_times_extent_limit))
 
-numerator_is : numerator_limit ≡ 2 ^ 57
-numerator_is = refl
-
 -- ---- the table: "Is every entry of the table from −2^40 to 2^40?" A built table stays within 2^38, and figures of a table in this range within 2^52.
 abbrev pub entry_limit : ℕ
 entry_limit = 2 ^ 40
@@ -105,15 +83,9 @@ entry_limit = 2 ^ 40
 abbrev pub built_entry_limit : ℕ
 built_entry_limit = most_edges * detail_limit
 
-built_entry_is : built_entry_limit ≡ 2 ^ 38
-built_entry_is = refl
-
 -- A figure is at most as many times an entry as its level has cells.
 abbrev pub figure_limit : ℕ
 figure_limit = greatest_side * greatest_side * entry_limit
-
-figure_limit_is : figure_limit ≡ 2 ^ 52
-figure_limit_is = refl
 
 -- ---- greys: "held between 0 and 255", white and full ink, so that one fits a byte
 abbrev pub full_grey : ℕ
@@ -145,9 +117,6 @@ movable_limit = 32768
 abbrev pub placed_limit : ℕ
 placed_limit = 2 * (factor_limit * movable_limit) + offset_limit
 
-placed_limit_is : placed_limit ≡ 147456
-placed_limit_is = refl
-
 -- ---- curves (02, P6): "k is the least from 0 to 7". A curve on the greatest sheet bends by at most twice the sheet's width, which is 4 × 4^7 steps, and 2^7 chords
 -- follow that to one step.
 abbrev pub most_splits : ℕ
@@ -155,6 +124,3 @@ most_splits = 7
 
 abbrev pub most_chords : ℕ
 most_chords = 2 ^ most_splits
-
-most_splits_is : 2 * greatest_sheet_coordinate ≡ 4 * 4 ^ most_splits
-most_splits_is = refl

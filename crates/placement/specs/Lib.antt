@@ -6,11 +6,7 @@ pub mod Parts
 pub mod Placed
 -- what functions ask of their callers
 pub mod Ready
--- what the test of a float says, and what it answers for single ones
-pub mod Multiples
 -- every product and every sum is exact
 pub mod Exact
 -- question 12 in words
 pub mod Placeable
--- how it is proved
-pub mod Laws

@@ -65,9 +65,6 @@ nearest k = round_half_up k parts_per_step
 abbrev pub part_bits : ℕ
 part_bits = 16
 
-parts_are : 2 ^ part_bits ≡ parts_per_step
-parts_are = refl
-
 abbrev pub per_step : Float
 per_step = fin false 1 (pos part_bits)
 

@@ -20,8 +20,8 @@ use Rattle.edge.specs.Rounded.{details}
 use Rattle.edge.specs.Nested.{quarter, OnCell}
 use Rattle.edge.specs.Walk.{dx, dy}
 use Rattle.edge.specs.Code.{half_with, quarter_details}
-use Rattle.edge.specs.Laws.Cells.{half_below, quarter_on}
-use Rattle.edge.specs.Laws.InQuarter.{in_quarter}
+use Rattle.edge.proofs.Laws.Cells.{half_below, quarter_on}
+use Rattle.edge.proofs.Laws.InQuarter.{in_quarter}
 use Rattle.haar.specs.Table.{index}
 use Rattle.haar.specs.Plane.{dimensions, h_detail, at}
 use Rattle.rasterize.specs.declared.Stage.{Stage}
@@ -31,13 +31,13 @@ use Rattle.rasterize.specs.Added.{added}
 use Rattle.rasterize.specs.Nodes.{quarters, half_width, quarter_node}
 use Rattle.rasterize.specs.Contribution.{first_detail, own_part, contribution}
 use Rattle.rasterize.specs.Ready.{Ready, Descent}
-use Rattle.rasterize.specs.Laws.Adding.{added-both, added_none}
-use Rattle.rasterize.specs.Laws.Nodes.{quarter_node_at}
-use Rattle.rasterize.specs.Laws.OnSheet.{half≥0, twice}
-use Rattle.rasterize.specs.Laws.Stages.{quarter_with, stage_quarter, stage_room}
-use Rattle.rasterize.specs.Laws.Spare.{spare_le}
-use Rattle.rasterize.specs.Laws.Contributions.{contribution-zero, contribution-quarter}
-use Rattle.rasterize.specs.Laws.ReadyCells.{ready-suc, ready-quarter}
+use Rattle.rasterize.proofs.Laws.Adding.{added-both, added_none}
+use Rattle.rasterize.proofs.Laws.Nodes.{quarter_node_at}
+use Rattle.rasterize.proofs.Laws.OnSheet.{half≥0, twice}
+use Rattle.rasterize.proofs.Laws.Stages.{quarter_with, stage_quarter, stage_room}
+use Rattle.rasterize.proofs.Laws.Spare.{spare_le}
+use Rattle.rasterize.proofs.Laws.Contributions.{contribution-zero, contribution-quarter}
+use Rattle.rasterize.proofs.Laws.ReadyCells.{ready-suc, ready-quarter}
 use Rattle.rasterize.proofs.QuarterLoop.{OwnAdded, own_added, own_length, own_spare}
 
 -- quarter x + 2 y is the one in half x from the left and in half y from the top

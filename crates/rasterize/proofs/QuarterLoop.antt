@@ -20,9 +20,11 @@ use lib.ListN.{length}
 use lib.IntN.{ℤ, pos, ◌+ℤ◌}
 use lib.Signed.{◌≤ℤ◌, ◌<ℤ◌}
 use Rattle.integers.specs.Units.{detail_limit}
-use Rattle.integers.specs.Linear.{le, lt, ◌&◌, linear, lin⊥}
-use Rattle.integers.specs.Within.{Within, within_is}
-use Rattle.integers.specs.RangeSum.{Σ<, Σ-zero, Σ-suc, Σ_cong, Σ_const, Σ_within}
+use Rattle.integers.proofs.Theorems.Linear.{le, lt, ◌&◌, linear, lin⊥}
+use Rattle.integers.specs.Within.{Within}
+use Rattle.integers.proofs.Theorems.Within.{within_is}
+use Rattle.integers.specs.RangeSum.{Σ<}
+use Rattle.integers.proofs.Theorems.RangeSum.{Σ-zero, Σ-suc, Σ_cong, Σ_const, Σ_within}
 use Rattle.edge.specs.declared.Edge.{Edge}
 use Rattle.edge.specs.declared.Cell.{Cell as Square}
 use Rattle.edge.specs.declared.Details.{Details}
@@ -32,17 +34,17 @@ use Rattle.edge.specs.Inside.{Inside}
 use Rattle.edge.specs.Cuts.{span}
 use Rattle.edge.specs.WalkOf.{IsWalk}
 use Rattle.edge.specs.Rounded.{details}
-use Rattle.edge.specs.Laws.WalkInside.{span_of_inside}
+use Rattle.edge.proofs.Laws.WalkInside.{span_of_inside}
 use Rattle.rasterize.specs.declared.Node.{Node}
 use Rattle.rasterize.specs.Added.{added}
 use Rattle.rasterize.specs.Nodes.{quarters, quarter_node}
 use Rattle.rasterize.specs.Contribution.{first_detail, own_part, contribution}
 use Rattle.rasterize.specs.Ready.{visits, Spare, OnSheet, Ready}
-use Rattle.rasterize.specs.Laws.Adding.{added-length, added-both, added_none}
-use Rattle.rasterize.specs.Laws.Spare.{spare_le, spare_added}
-use Rattle.rasterize.specs.Laws.OnSheet.{on_sheet_details, quarter_on_sheet}
-use Rattle.rasterize.specs.Laws.Contributions.{own_within, contribution-zero, contribution-suc, contribution_outside, contribution_within}
-use Rattle.rasterize.specs.Laws.ReadyCells.{ready-quarter}
+use Rattle.rasterize.proofs.Laws.Adding.{added-length, added-both, added_none}
+use Rattle.rasterize.proofs.Laws.Spare.{spare_le, spare_added}
+use Rattle.rasterize.proofs.Laws.OnSheet.{on_sheet_details, quarter_on_sheet}
+use Rattle.rasterize.proofs.Laws.Contributions.{own_within, contribution-zero, contribution-suc, contribution_outside, contribution_within}
+use Rattle.rasterize.proofs.Laws.ReadyCells.{ready-quarter}
 
 -- ---- which quarter comes when
 pub record Order (order : ℕ → ℕ) : Type 0 where

@@ -13,8 +13,9 @@ use mathlib.Core.List.{List, [], ◌∷◌}
 use Prim.Native.Nat.{ℕ, suc, ◌+◌, ◌*◌, ◌/◌, ◌%◌, ◌<◌, ◌≤◌}
 use lib.IntN.{ℤ, pos, negsuc, ◌+ℤ◌}
 use lib.Signed.{◌≤ℤ◌, ◌<ℤ◌}
-use Rattle.integers.specs.Ring.{read, ring}
-use Rattle.integers.specs.RangeSum.{Σ<, Σ-zero, Σ-suc}
+use Rattle.integers.proofs.Theorems.Ring.{read, ring}
+use Rattle.integers.specs.RangeSum.{Σ<}
+use Rattle.integers.proofs.Theorems.RangeSum.{Σ-zero, Σ-suc}
 use Rattle.edge.specs.declared.Cell.{Cell as Square}
 use Rattle.edge.specs.declared.Details.{Details}
 use Rattle.edge.specs.declared.Walk.{Walk}
@@ -28,8 +29,8 @@ use Rattle.rasterize.specs.Nodes.{quarters, quarter_node}
 use Rattle.rasterize.specs.Contribution.{first_detail, own_part}
 use Rattle.rasterize.specs.Ready.{OnSheet}
 use Rattle.rasterize.specs.Slanted.{node_on, Slants, quarter_on_way, quarter_spot, SlantedReady, SlantedAdds}
-use Rattle.rasterize.specs.Laws.OnSheet.{quarter_on_sheet}
-use Rattle.rasterize.specs.Laws.SlantedCells.{way_below, slants_details, slants_quarter, slants_outside}
+use Rattle.rasterize.proofs.Laws.OnSheet.{quarter_on_sheet}
+use Rattle.rasterize.proofs.Laws.SlantedCells.{way_below, slants_details, slants_quarter, slants_outside}
 use Rattle.rasterize.proofs.QuarterLoop.{Order, OwnAdded, QuarterLoop, own_added, own_end}
 use Rattle.rasterize.proofs.QuarterLoop.{quarters_start, quarters_asks, quarters-step, quarters-skip, quarters_end}
 

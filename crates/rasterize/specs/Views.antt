@@ -14,12 +14,12 @@ use Rattle.integers.specs.ListSum.{total}
 use Rattle.edge.specs.declared.Edge.{Edge}
 use Rattle.edge.specs.Rounded.{root_term, rounded_area}
 use Rattle.edge.specs.Nested.{seen_from}
-use Rattle.edge.specs.Laws.Reversal.{reverse}
+use Rattle.edge.proofs.Laws.Reversal.{reverse}
 use Rattle.haar.specs.Table.{Coefficients}
 use Rattle.haar.specs.Plane.{dimensions}
 use Rattle.accuracy.specs.Tile.{tile}
 use Rattle.accuracy.specs.OutlineTable.{rooted_table}
-use Rattle.accuracy.specs.Laws.EntryBounds.{Small}
+use Rattle.accuracy.proofs.Laws.EntryBounds.{Small}
 use Rattle.rasterize.specs.declared.View.{View}
 use Rattle.rasterize.specs.declared.View.TheVariants.{Alone, From}
 use Rattle.rasterize.specs.Nodes.{node_at}

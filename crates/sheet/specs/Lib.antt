@@ -13,15 +13,7 @@ pub mod SheetRefusals
 -- ---- demands 2 and 3: the claim, and that it holds
 pub mod FaithfulOnSheet
 pub mod SheetTheorem
--- each entry by itself
-pub mod SheetEntries
 -- the tiles' roots add up to the outline's area
 pub mod TilesAddUp
--- a sheet that is one tile is a tile alone
-pub mod OneTile
--- traced the other way round, every tile has the opposite table and the same greys (P4)
-pub mod EitherWayOnSheet
 -- ---- a tile alone or on a sheet, as the calls of `corrections` have it
 pub mod Sites
--- ---- how it is proved
-pub mod Laws

@@ -2,10 +2,11 @@
 -- numbers by its test a <= b.
 use Rattle.std.proofs.Common.{◌≡◌, refl, sym, ap, ℕ, zero, suc, true, false, ℤ, ◌+ℤ◌, ◌-ℤ◌, w64, SFits}
 use Rattle.std.specs.Int.Signed.{le_z}
-use Rattle.integers.specs.Machine.{known, taken≤, left≤}
-use Rattle.integers.specs.Order.{≤ℤ_of_<ℤ}
+use Rattle.integers.proofs.Theorems.Machine.{known, taken≤, left≤}
+use Rattle.integers.proofs.Theorems.Order.{≤ℤ_of_<ℤ}
 use Rattle.integers.specs.Bits.{back}
-use Rattle.integers.specs.MinMax.{min, max, min_eqˡ, min_eqʳ, max_eqˡ, max_eqʳ}
+use Rattle.integers.specs.MinMax.{min, max}
+use Rattle.integers.proofs.Theorems.MinMax.{min_eqˡ, min_eqʳ, max_eqˡ, max_eqʳ}
 use Rattle.slanted.specs.Parts.{since, until, shifted}
 
 module _ {k : ℕ} (t m : ℤ) where

@@ -6,16 +6,18 @@
 --   signed_by_eq                 three numbers with their signs
 use Rattle.std.proofs.Common.{◌≡◌, ◌∙◌, ap, ap₂, ℤ, pos, ◌≤ℤ◌, ◌<ℤ◌, w64, SFits, to_z-of_z}
 use Rattle.std.proofs.Math.Path.{subst⁻¹}
-use Rattle.integers.specs.Order.{≤ℤ_of_<ℤ}
-use Rattle.integers.specs.Within.{within_le, within_self}
-use Rattle.integers.specs.Bits.{back, back_is, fits_within}
-use Rattle.integers.specs.Held.{Held, held_back}
+use Rattle.integers.proofs.Theorems.Order.{≤ℤ_of_<ℤ}
+use Rattle.integers.proofs.Theorems.Within.{within_le, within_self}
+use Rattle.integers.specs.Bits.{back}
+use Rattle.integers.proofs.Theorems.Bits.{back_is, fits_within}
+use Rattle.integers.specs.Held.{Held}
+use Rattle.integers.proofs.Theorems.Held.{held_back}
 use Rattle.edge.specs.Room.{crossing_limit}
 use Rattle.slanted.specs.declared.Slope.{Slope}
 use Rattle.slanted.specs.declared.Piece.{Piece}
 use Rattle.slanted.specs.Under.{under, turned, under_limit, sum_limit}
 use Rattle.slanted.specs.Pieces.{signed_by, Sound}
-use Rattle.slanted.specs.Laws.Sums.{turned-range}
+use Rattle.slanted.proofs.Laws.Sums.{turned-range}
 use Rattle.slanted.proofs.SumBits.{under_back, sum_within, turned-eq}
 
 module _ {l : Slope} {k : Piece} (r : Sound l k) where

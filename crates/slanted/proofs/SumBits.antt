@@ -8,16 +8,17 @@
 --   sign_within, sign-rounded    a number's sign, and their product, which is rounded as the number is
 use Rattle.std.proofs.Common.{◌≡◌, sym, ◌∙◌, ap, ap₂, subst, [], ◌∷◌, ℕ, ℤ, pos, negsuc, neg_ℤ, nat_abs, ◌*ℤ◌, ◌<ℤ◌, ltb→lt, w64, SFits, to_z-of_z}
 use Rattle.std.proofs.Math.Path.{subst⁻¹}
-use Rattle.integers.specs.Ring.{read, ring}
-use Rattle.integers.specs.Order.{add_one_≤ℤ, nonneg, ≤ℤ-mul}
-use Rattle.integers.specs.Linear.{le, ◌&◌, none!, linear, lin≤}
-use Rattle.integers.specs.Within.{Within, within_le, within_self}
+use Rattle.integers.proofs.Theorems.Ring.{read, ring}
+use Rattle.integers.proofs.Theorems.Order.{add_one_≤ℤ, nonneg, ≤ℤ-mul}
+use Rattle.integers.proofs.Theorems.Linear.{le, ◌&◌, none!, linear, lin≤}
+use Rattle.integers.specs.Within.{Within}
+use Rattle.integers.proofs.Theorems.Within.{within_le, within_self}
 use Rattle.integers.specs.Bits.{back}
 use Rattle.integers.specs.Rounding.{round_half_away}
-use Rattle.integers.specs.RoundHalfAway.{round_half_away_within}
+use Rattle.integers.proofs.Theorems.RoundHalfAway.{round_half_away_within}
 use Rattle.slanted.specs.Under.{under, turned, under_limit, Arch, Turns, stays, turns}
-use Rattle.slanted.specs.Laws.Sums.{under-range}
-use Rattle.slanted.specs.Laws.PieceDetails.{rounded-neg}
+use Rattle.slanted.proofs.Laws.Sums.{under-range}
+use Rattle.slanted.proofs.Laws.PieceDetails.{rounded-neg}
 
 module _ {p m u v : ℤ} (i : SFits w64 p) (j : SFits w64 m) (k : SFits w64 u) (l : SFits w64 v) where
   pub arch_back : Arch p m u v → Arch (back p) (back m) (back u) (back v)

@@ -8,5 +8,3 @@ pub mod Under
 pub mod Pieces
 -- a walk in the quarters of a cell
 pub mod Parts
--- ---- what is proved of it
-pub mod Laws

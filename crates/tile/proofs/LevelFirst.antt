@@ -12,9 +12,9 @@ use Rattle.integers.specs.Units.{greatest_depth}
 use Rattle.integers.specs.ListSum.{All}
 use Rattle.tile.specs.Questions.{Question, Yes, first_no}
 use Rattle.tile.specs.Inner.{level_questions}
-use Rattle.tile.specs.Laws.FirstNo.{first_no-zero}
-use Rattle.tile.specs.Laws.Answers.{level_le}
-use Rattle.tile.specs.Laws.Asking.{After, first_refused, first_passed}
+use Rattle.tile.proofs.Laws.FirstNo.{first_no-zero}
+use Rattle.tile.proofs.Laws.Answers.{level_le}
+use Rattle.tile.proofs.Laws.Asking.{After, first_refused, first_passed}
 
 -- by what `level_refusal` answered
 module _ (side level : ℕ) (table : List ℤ) {number : ℕ} (e : number ≡ first_no (level_questions side level table)) where

@@ -10,7 +10,7 @@
 --   inRange z                              question 9 of one entry
 --   entries_looked_at table                  how many entries the search looks at (`looked_at` of `integers`, in Search)
 --   LeastOut table i                       i is the least place out of range (`LeastFailing`, there too)
--- Main results
+-- Main results (the laws among them are in proofs/Theorems/EntrySearch.antt)
 --   least_or_all                           02's sentence: the count is one more than the least place out of range, or all where there is none
 --   looked_least                           question 9 is answered no, and one more than i entries were looked at: exactly where i is the least place out of range
 --   looked_all                             it is answered yes, and all were looked at: exactly where none is out of range
@@ -19,7 +19,8 @@
 use Rattle.std.specs.Prelude.{◌≡◌, refl, ◌↔◌, ◌⊎◌, Bool, List, [], ◌∷◌, ◌++◌, ℕ, suc, length, take, ℤ, pos, neg_ℤ}
 use Rattle.integers.specs.Units.{entry_limit}
 use Rattle.integers.specs.ListSum.{All}
-use Rattle.integers.specs.Tests.{between, within_means}
+use Rattle.integers.specs.Tests.{between}
+use Rattle.integers.proofs.Theorems.Tests.{within_means}
 use Rattle.integers.specs.Within.{Within}
 use Rattle.integers.specs.Search as general
 use Rattle.tile.specs.Questions.{Yes, No, question9}
@@ -33,45 +34,3 @@ entries_looked_at = general.looked_at in_range
 -- i is a place of the table, every entry before it is in range, and the entry there is not. (0 is a default for places past the end; i and those before it are not.)
 abbrev pub LeastOut : List ℤ → ℕ → Type 0
 LeastOut = general.LeastFailing (Within (pos entry_limit)) (pos 0)
-
-pub least_or_all : (table : List ℤ)
-    → ((i : ℕ) × LeastOut table i × (entries_looked_at table ≡ suc i)) ⊎ (All (Within (pos entry_limit)) table × (entries_looked_at table ≡ length table))
-least_or_all = general.least_or_all in_range (within_means (pos entry_limit)) (pos 0)
-
-pub looked_least : (table : List ℤ) (i : ℕ) → (No (question9 table) × (entries_looked_at table ≡ suc i)) ↔ LeastOut table i
-looked_least = general.looked_least in_range (within_means (pos entry_limit)) (pos 0)
-
-pub looked_all : (table : List ℤ) → (Yes (question9 table) × (entries_looked_at table ≡ length table)) ↔ All (Within (pos entry_limit)) table
-looked_all = general.looked_all in_range (within_means (pos entry_limit))
-
-pub rest_immaterial : (table rest : List ℤ) → No (question9 table)
-    → (let others = take (entries_looked_at table) table ++ rest in No (question9 others) × (entries_looked_at others ≡ entries_looked_at table))
-rest_immaterial = general.rest_immaterial in_range
-
--- ---- single tables, by computing: the greatest and the least entry in range, and one past each
-abbrev highest : ℤ
-highest = pos entry_limit
-
-abbrev lowest : ℤ
-lowest = neg_ℤ (pos entry_limit)
-
-abbrev too_high : ℤ
-too_high = pos (suc entry_limit)
-
-abbrev too_low : ℤ
-too_low = neg_ℤ (pos (suc entry_limit))
-
-pub empty : Yes (question9 []) × (entries_looked_at [] ≡ 0)
-empty = (refl, refl)
-
-pub front : No (question9 (too_high ∷ highest ∷ too_low ∷ [])) × (entries_looked_at (too_high ∷ highest ∷ too_low ∷ []) ≡ 1)
-front = (refl, refl)
-
-pub middle : No (question9 (highest ∷ too_low ∷ too_high ∷ lowest ∷ [])) × (entries_looked_at (highest ∷ too_low ∷ too_high ∷ lowest ∷ []) ≡ 2)
-middle = (refl, refl)
-
-pub whole : Yes (question9 (highest ∷ lowest ∷ [])) × (entries_looked_at (highest ∷ lowest ∷ []) ≡ 2)
-whole = (refl, refl)
-
-pub last : No (question9 (highest ∷ too_low ∷ [])) × (entries_looked_at (highest ∷ too_low ∷ []) ≡ 2)
-last = (refl, refl)

@@ -10,7 +10,7 @@
 --   Holds l                      building and drawing it gives what the papers give
 --   letter_a .. letter_h, letters  the eight of them
 --
--- Main results
+-- Main results (the laws among them are in proofs/Theorems/Letters.antt)
 --   letters_hold                 for each of the eight
 use Rattle.std.specs.Prelude.{◌≡◌, refl, List, [], ◌∷◌, ℕ, suc, ◌*◌, ◌/◌, ◌^◌, length, drop, ℤ, pos, neg_ℤ}
 use Rattle.std.proofs.Common.{◌∙◌, ap}
@@ -19,15 +19,12 @@ use Rattle.edge.specs.declared.Edge.{Edge}
 use Rattle.edge.specs.Walk.{steps}
 use Rattle.edge.specs.Integrals.{h_num}
 use Rattle.edge.specs.Rounded.{details}
-use Rattle.edge.specs.Laws.Letters.{f, f-steps, f_h, f-details, g, g-steps, g_h, g-details}
+use Rattle.edge.proofs.Laws.Letters.{f, f-steps, f_h, f-details, g, g-steps, g_h, g-details}
 use Rattle.haar.specs.Greys.{grey_of}
 use Rattle.haar.specs.Plane.{picture_in}
 use Rattle.accuracy.specs.Tile.{tile}
 use Rattle.tile.specs.Questions.{depth_of}
 use Rattle.tile.specs.Outcomes.{if_done, edges_of, table_of, build_refusal, build_table, draw_refusal, figures_picture, greys_picture}
-use Rattle.tile.specs.Refusals.{building_refusals, question2_means}
-use Rattle.tile.specs.Laws.IfDone.{if_done_lem}
-use Rattle.tile.specs.Laws.Computed.{computed_table, table_of_computed, computed_picture}
 
 pub record View (A : Type 0) : Type 0 where
   pub level : ℕ
@@ -179,39 +176,3 @@ letter_h = record {
 
 abbrev pub letters : List Letter
 letters = letter_a ∷ letter_b ∷ letter_c ∷ letter_d ∷ letter_e ∷ letter_f ∷ letter_g ∷ letter_h ∷ []
-
--- ---- the table by its closed form, and all else by computing it
--- Of what the table was before, building asks only its length, which is that of the letter's table; of a picture, drawing asks only its length.
-build_letter : (l : Letter) → build_refusal l.side l.points (counts l) l.table ≡ 0 → computed_table l.side l.points (counts l) ≡ l.table
-    → (before : List ℤ) → length before ≡ l.side * l.side
-    → (build_refusal l.side l.points (counts l) before ≡ 0) × (build_table l.side l.points (counts l) before ≡ l.table)
-build_letter l accepted table before e =
-    let y = (building_refusals l.side l.points (counts l) l.table).accepted.0 accepted in
-    let done = (building_refusals l.side l.points (counts l) before).accepted.1 (y.0, ((question2_means l.side before).1 e, y.1.1)) in
-    (done, if_done_lem (table_of l.side l.points (counts l)) before done ∙ table_of_computed l.side l.points (counts l) ∙ table)
-
-module _ (l : Letter) (level : ℕ) (accepted : draw_refusal l.side level l.table (4 ^ level) ≡ 0) where
-  draw_letter : {A : Type 0} {drawing : List A} (g : ℤ → A) → picture_in g l.table level ≡ drawing → (picture : List A) → length picture ≡ 4 ^ level
-      → (draw_refusal l.side level l.table (length picture) ≡ 0)
-      × (if_done (draw_refusal l.side level l.table (length picture)) (picture_in g l.table level) picture ≡ drawing)
-  draw_letter g p picture e =
-      let done = ap (draw_refusal l.side level l.table) e ∙ accepted in
-      (done, if_done_lem (picture_in g l.table level) picture done ∙ p)
-
-holds : (l : Letter) → build_refusal l.side l.points (counts l) l.table ≡ 0 → computed_table l.side l.points (counts l) ≡ l.table
-    → All (FiguresAre l) l.figures → All (GreysAre l) l.greys → All (SlantIs l) l.slants → Holds l
-holds l accepted table figures greys slants =
-    record { built = build_letter l accepted table; figures_drawn = figures; greys_drawn_lem = greys; slanted = slants }
-
-pub letters_hold : All Holds letters
-unfolding tally computed_table computed_picture
-letters_hold =
-    let a = holds letter_a refl refl tt (draw_letter letter_a 0 refl (grey_of 1) refl, tt) tt in
-    let b = holds letter_b refl refl tt (draw_letter letter_b 0 refl (grey_of 1) refl, tt) tt in
-    let c = holds letter_c refl refl tt (draw_letter letter_c 0 refl (grey_of 1) refl, tt) tt in
-    let d = holds letter_d refl refl (draw_letter letter_d 1 refl (λ f. f) refl, tt) (draw_letter letter_d 0 refl (grey_of 2) refl, tt) tt in
-    let e = holds letter_e refl refl tt (draw_letter letter_e 1 refl (grey_of 2) refl, tt) tt in
-    let f' = holds letter_f refl refl (draw_letter letter_f 1 refl (λ f. f) refl, tt) tt (record { edge = f; is_edge = refl; exact = f_h; over = f-steps; rounds = ap (λ w. w.h) f-details }, tt) in
-    let g' = holds letter_g refl refl (draw_letter letter_g 1 refl (λ f. f) refl, tt) tt (record { edge = g; is_edge = refl; exact = g_h; over = g-steps; rounds = ap (λ w. w.h) g-details }, tt) in
-    let h = holds letter_h refl refl tt tt tt in
-    (a, (b, (c, (d, (e, (f', (g', (h, tt))))))))

@@ -21,9 +21,6 @@ pub mod DrawnFigures
 pub mod AllLevels
 -- ---- demand 3: the claim from the outline to what is drawn of it, and that it holds
 pub mod Faithful
-pub mod Theorem
--- ---- 02's placements: what is built is the outline as placed, so demands 2 and 3 are of that one
-pub mod PlacedOutline
 -- ---- 01's letters
 pub mod Letters
 -- ---- 02's wrong-handed tracing: a letter and the same one traced the other way round have the same greys; with the points in the reverse order
@@ -35,5 +32,3 @@ pub mod Written
 pub mod Inner
 -- ---- and the search behind question 9 (02, P2)
 pub mod EntrySearch
--- ---- how it is proved
-pub mod Laws

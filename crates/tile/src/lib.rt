@@ -137,7 +137,7 @@ pub fn are_counts(counts: &[u32]) -> bool
 }
 
 // The counts' sum, or one more than the most edges where it is greater: there may be any number of counts, and their sum may pass what a word holds.
-#[tactic(auto, using(crate::specs::Laws::CountsSum::count_next, crate::specs::Laws::CountsSum::count_end, crate::specs::Laws::CountsSum::capped_within, crate::specs::Laws::CountsSum::capped_over))]
+#[tactic(auto, using(crate::proofs::Laws::CountsSum::count_next, crate::proofs::Laws::CountsSum::count_end, crate::proofs::Laws::CountsSum::capped_within, crate::proofs::Laws::CountsSum::capped_over))]
 pub fn edges_of(counts: &[u32]) -> usize
     ensures value { result ≡ capped_edges counts.now }
     ensures counts_value { counts.now ≡ counts.now }

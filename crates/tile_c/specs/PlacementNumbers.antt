@@ -4,7 +4,7 @@
 -- Definitions
 --   refused_placement             a placement that question 12 refuses, whatever the points
 --   placement_of numbers          the placement
--- Main results
+-- Main results (the laws among them are in proofs/Theorems/PlacementNumbers.antt)
 --   of_none, of_scale, of_shift, of_turn      the placement of as many numbers
 --   other_length                              a list of another length is refused by question 12, whatever the points
 use Rattle.std.specs.Prelude.{◌≡◌, refl, false, cond, List, [], ◌∷◌, ◌≢◌, eqb, length, get_or, ℤ, pos, Float}
@@ -38,25 +38,3 @@ placement_of numbers =
     (cond (eqb (length numbers) 1) (Scale (get_or numbers 0 nan))
     (cond (eqb (length numbers) 2) (Shift (get_or numbers 0 nan) (get_or numbers 1 nan))
     (cond (eqb (length numbers) 6) (turn_of numbers) refused_placement)))
-
-pub of_none : placement_of [] ≡ None
-of_none = refl
-
-pub of_scale : (s : Float) → placement_of (s ∷ []) ≡ Scale s
-of_scale s = refl
-
-pub of_shift : (u v : Float) → placement_of (u ∷ v ∷ []) ≡ Shift u v
-of_shift u v = refl
-
-pub of_turn : (a b c d e f : Float) → placement_of (a ∷ b ∷ c ∷ d ∷ e ∷ f ∷ []) ≡ Turn (record { a = a; b = b; c = c; d = d; e = e; f = f })
-of_turn a b c d e f = refl
-
-refused_placement_lem : (points : List ℤ) → No (question12 refused_placement points)
-unfolding is_multiple
-refused_placement_lem points = refl
-
-pub other_length : (numbers : List Float) (points : List ℤ) → length numbers ≢ 0 → length numbers ≢ 1 → length numbers ≢ 2 → length numbers ≢ 6
-    → No (question12 (placement_of numbers) points)
-other_length numbers points none scale shift turn =
-    let other : placement_of numbers ≡ refused_placement = simp (ne_eqb _ _ none, ne_eqb _ _ scale, ne_eqb _ _ shift, ne_eqb _ _ turn) in
-    ap (λ p. (question12 p points).answer) other ∙ refused_placement_lem points

@@ -8,11 +8,12 @@ use lib.IntN.{◌*ℤ◌}
 use mir.Syntax.{w64}
 use mir.Val.{to_z}
 use Rattle.integers.specs.Units.{most_splits}
-use Rattle.integers.specs.Bits.{back, back_is}
-use Rattle.integers.specs.Held.{held_number, held_within}
+use Rattle.integers.specs.Bits.{back}
+use Rattle.integers.proofs.Theorems.Bits.{back_is}
+use Rattle.integers.proofs.Theorems.Held.{held_number, held_within}
 use Rattle.edge.specs.declared.Edge.{Edge}
 use Rattle.curve.specs.Curve.{bend}
-use Rattle.curve.specs.Laws.Splits.{splits_most}
+use Rattle.curve.proofs.Laws.Splits.{splits_most}
 use Rattle.accuracy.specs.Outline.{edge_between}
 use Rattle.rasterize.specs.Added.{added, entry_of}
 use Rattle.rasterize.specs.Views.{part_table, InView}
@@ -20,7 +21,7 @@ use Rattle.rasterize.specs.Laws.Sums.{edges_part}
 use Rattle.chords.specs.declared.Curve.{Curve}
 use Rattle.chords.specs.declared.Side.TheVariants.{Curved}
 use Rattle.chords.specs.Chords.{splits_of, chord_point, chords_of}
-use Rattle.chords.specs.Laws.ChordList.{curved_length, chord_next}
+use Rattle.chords.proofs.Laws.ChordList.{curved_length, chord_next}
 use Rattle.chords.proofs.Left.{Left, left_start, left_none, left-fits, left_in, left_next, one_edge}
 use Rattle.chords.proofs.add_curve.Statement.{statement}
 use Rattle.chords.proofs.add_curve.Tie as tie

@@ -5,8 +5,9 @@ use lib.ListN.{length}
 use lib.IntN.{ℤ}
 use borrow.Author.Rules.{rules}
 use Rattle.integers.specs.ListSum.{All}
-use Rattle.integers.specs.Held.{held_number, held_within}
-use Rattle.integers.specs.Bits.{back, back_is}
+use Rattle.integers.proofs.Theorems.Held.{held_number, held_within}
+use Rattle.integers.specs.Bits.{back}
+use Rattle.integers.proofs.Theorems.Bits.{back_is}
 use Rattle.curve.specs.Curve.{OnSheet}
 use Rattle.rasterize.specs.Added.{added}
 use Rattle.rasterize.specs.Ready.{Fits}
@@ -15,7 +16,7 @@ use Rattle.rasterize.specs.Laws.Sums.{edges_part}
 use Rattle.chords.specs.declared.Side.{Side}
 use Rattle.chords.specs.Chords.{chords_of}
 use Rattle.chords.specs.Laws.SidesWithin.{SideWithin}
-use Rattle.chords.specs.Laws.ChordList.{straight_chords}
+use Rattle.chords.proofs.Laws.ChordList.{straight_chords}
 use Rattle.chords.proofs.Left.{one_edge}
 use Rattle.chords.proofs.add_side.Statement.{statement}
 use Rattle.chords.proofs.add_side.Tie as tie

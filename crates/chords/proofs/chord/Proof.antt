@@ -5,10 +5,10 @@ use native.Mathlib.Omega.{arith}
 use lib.Pow.{pow_mono}
 use lib.IntN.{ℤ}
 use Rattle.integers.specs.Units.{most_splits, most_chords}
-use Rattle.integers.specs.Bits.{field_is}
+use Rattle.integers.proofs.Theorems.Bits.{field_is}
 use Rattle.edge.specs.declared.Edge.{Edge}
 use Rattle.curve.specs.Curve.{bend}
-use Rattle.curve.specs.Laws.Splits.{splits_most}
+use Rattle.curve.proofs.Laws.Splits.{splits_most}
 use Rattle.chords.proofs.chord.Statement.{statement}
 use Rattle.chords.proofs.chord.Tie as tie
 

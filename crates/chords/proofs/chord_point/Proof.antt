@@ -4,9 +4,9 @@ use Prim.Native.Nat.{ℕ, ◌≤◌}
 use native.Mathlib.Omega.{arith}
 use lib.IntN.{ℤ}
 use Rattle.integers.specs.Units.{most_splits}
-use Rattle.integers.specs.Bits.{result_is}
+use Rattle.integers.proofs.Theorems.Bits.{result_is}
 use Rattle.curve.specs.Curve.{bend, chord_end}
-use Rattle.curve.specs.Laws.Splits.{splits_most}
+use Rattle.curve.proofs.Laws.Splits.{splits_most}
 use Rattle.chords.proofs.Coordinates.{on_back, on_again}
 use Rattle.chords.proofs.chord_point.Statement.{statement}
 use Rattle.chords.proofs.chord_point.Tie as tie

@@ -5,9 +5,9 @@ use native.Mathlib.Omega.{arith}
 use lib.ListN.{length}
 use borrow.Author.Rules.{rules}
 use Rattle.curve.specs.Curve.{OnSheet, bend}
-use Rattle.curve.specs.Laws.Splits.{splits_most}
+use Rattle.curve.proofs.Laws.Splits.{splits_most}
 use Rattle.chords.specs.Chords.{chords_of}
-use Rattle.chords.specs.Laws.ChordList.{straight_chords, curved_length}
+use Rattle.chords.proofs.Laws.ChordList.{straight_chords, curved_length}
 use Rattle.chords.specs.Laws.SidesWithin.{SideWithin}
 use Rattle.chords.proofs.chords_in.Statement.{statement}
 use Rattle.chords.proofs.chords_in.Tie as tie

@@ -11,13 +11,13 @@ use Rattle.integers.specs.Units.{most_chords}
 use Rattle.integers.specs.ListSum.{joined}
 use Rattle.curve.specs.Curve.{OnSheet}
 use Rattle.placement.specs.Placed.{placed}
-use Rattle.placement.specs.Laws.PlacedPoints.{placed-length}
+use Rattle.placement.proofs.Laws.PlacedPoints.{placed-length}
 use Rattle.chords.specs.declared.Side.{Side}
 use Rattle.chords.specs.Sides.{marked_contour}
 use Rattle.chords.specs.Chords.{chords_of, contour_chords}
 use Rattle.chords.specs.Inner.{side_at}
 use Rattle.chords.specs.Laws.SidesWithin.{SideWithin}
-use Rattle.chords.specs.Laws.ChordList.{chords_few}
+use Rattle.chords.proofs.Laws.ChordList.{chords_few}
 use Rattle.chords.proofs.NextSide.{sides_left, Reached, reached_none, chords_end, own_numbers, chords_next, reached_next, side_has}
 use Rattle.chords.proofs.chords_of.Statement.{statement}
 use Rattle.chords.proofs.chords_of.Tie as tie

@@ -5,7 +5,7 @@ use native.Mathlib.Omega.{arith}
 use lib.IntN.{ℤ}
 use borrow.Author.Rules.{rules}
 use borrow.Author.Tests.{lt-ltb, le-ltb}
-use Rattle.integers.specs.Bits.{field_is}
+use Rattle.integers.proofs.Theorems.Bits.{field_is}
 use Rattle.accuracy.specs.Outline.{point_at}
 use Rattle.placement.specs.Placed.{placed}
 use Rattle.chords.specs.declared.Curve.{Curve}

@@ -10,14 +10,14 @@ use lib.IntN.{ℤ}
 use borrow.Author.Rules.{rules}
 use borrow.Author.Tests.{le-leb, lt-leb}
 use Rattle.integers.specs.Units.{most_points, most_edges, most_chords}
-use Rattle.integers.specs.ListSum.{all_entry}
+use Rattle.integers.proofs.Theorems.ListSum.{all_entry}
 use Rattle.edge.specs.declared.Edge.{Edge}
 use Rattle.curve.specs.Curve.{OnSheet}
 use Rattle.placement.specs.Placed.{placed}
-use Rattle.placement.specs.Laws.PlacedPoints.{placeable_part}
+use Rattle.placement.proofs.Laws.PlacedPoints.{placeable_part}
 use Rattle.chords.specs.Sides.{numbers, marked_contour, marked_contours}
 use Rattle.chords.specs.Chords.{contour_chords, outline_chords}
-use Rattle.chords.specs.Laws.ChordList.{contour_few}
+use Rattle.chords.proofs.Laws.ChordList.{contour_few}
 use Rattle.chords.proofs.NextContour.{Walked, contours_left, walked_none, contours_end, marks_there, own_marks, own_count, points_there, own_points, own_length, outline_next, walked_next, own_has}
 use Rattle.chords.proofs.outline_chords.Statement.{statement}
 use Rattle.chords.proofs.outline_chords.Tie as tie

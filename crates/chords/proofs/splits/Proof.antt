@@ -2,7 +2,7 @@
 use mathlib.Core.Path.{◌≡◌, ◌∙◌, ap, ap₂}
 use lib.IntN.{ℤ}
 use borrow.Author.Rules.{rules}
-use Rattle.integers.specs.Bits.{result_is}
+use Rattle.integers.proofs.Theorems.Bits.{result_is}
 use Rattle.curve.specs.Curve.{bend, splits}
 use Rattle.chords.proofs.Coordinates.{on_back, on_again}
 use Rattle.chords.proofs.splits.Statement.{statement}

@@ -1,6 +1,6 @@
 -- What holds of every coordinate of a contour holds of the points of its sides.
 --
--- Main results
+-- Main results (the laws among them are in proofs/Laws/SidesWithin.antt)
 --   numbers-split                the numbers of the first marks and those of the others
 --   some-numbers, numbers_even   an edge has at least two, and they come in twos
 --   Right P c                    a contour with as many coordinates as its marks say, each of which has the property P
@@ -12,7 +12,8 @@ use Rattle.std.specs.Prelude.{◌≡◌, refl, Bool, true, false, cond, ℕ, zer
 use mathlib.Core.List.{List, [], ◌∷◌}
 use Rattle.std.proofs.Common.{arith, length-take-le}
 use Rattle.std.proofs.Math.ListN.{length, drop, length-drop}
-use Rattle.integers.specs.ListSum.{All, all_map, all_entry, all_drop, all_take, all_joined, tally, joined}
+use Rattle.integers.specs.ListSum.{All, tally, joined}
+use Rattle.integers.proofs.Theorems.ListSum.{all_map, all_entry, all_drop, all_take, all_joined}
 use Rattle.accuracy.specs.Outline.{Point, point_at, edge_between, edge_count}
 use Rattle.chords.specs.declared.Side.{Side}
 use Rattle.chords.specs.declared.Side.TheVariants.{Straight, Curved}
@@ -31,15 +32,6 @@ at_least false = omega arith
 
 pub some-numbers : (m : ℕ) → 2 ≤ numbers_of m
 some-numbers m = at_least (eqb m 0)
-
-evenly : (b : Bool) → cond b 2 4 % 2 ≡ 0
-evenly true = refl
-evenly false = refl
-
-pub numbers_even : (ms : List ℕ) → numbers ms % 2 ≡ 0
-unfolding tally
-numbers_even [] = refl
-numbers_even (m ∷ ms) = omega (arith, evenly (eqb m 0), numbers_even ms)
 
 module _ (P : ℤ → Type 0) where
   abbrev pub Right : MarkedContour → Type 0

@@ -8,7 +8,8 @@ use mir.Val.{to_z}
 use mir.Facts.{to_z-of_z}
 use Rattle.integers.specs.Units.{greatest_depth, greatest_side, greatest_coordinate}
 use Rattle.integers.specs.Within.{Within}
-use Rattle.integers.specs.Bits.{back, back_is, within_back, fits_within}
+use Rattle.integers.specs.Bits.{back}
+use Rattle.integers.proofs.Theorems.Bits.{back_is, within_back, fits_within}
 use Rattle.haar.specs.Table.{index}
 use Rattle.haar.specs.Plane.{dimensions, h_detail, at}
 use Rattle.rasterize.specs.declared.Spot.{Spot}
@@ -16,7 +17,7 @@ use Rattle.rasterize.specs.Added.{added}
 use Rattle.rasterize.specs.Nodes.{node_at}
 use Rattle.rasterize.specs.Contribution.{first_detail}
 use Rattle.rasterize.specs.Ready.{SmallDetails}
-use Rattle.rasterize.specs.Laws.Spare.{spare_le}
+use Rattle.rasterize.proofs.Laws.Spare.{spare_le}
 use Rattle.contours.specs.Runs.{square_at, parent_spot, with_area, details_in, above, AboveReady}
 use Rattle.contours.specs.Laws.RunCells.{on_cell_small}
 use Rattle.contours.proofs.AboveLoop.{Climb, climb_start, climb_end, climb_few, climb_at, climb_wide, part, climb_details, climb_small, climb_step, climb_first}

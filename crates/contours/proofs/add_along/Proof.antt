@@ -8,10 +8,12 @@ use lib.ListN.{length}
 use lib.IntN.{ℤ, pos, ◌+ℤ◌}
 use native.Mathlib.Decide.{dec_lt}
 use Rattle.integers.specs.Units.{greatest_depth, detail_limit}
-use Rattle.integers.specs.Within.{within_le}
-use Rattle.integers.specs.Order.{pos-≤ℤ}
-use Rattle.integers.specs.Bits.{back, back_is, result_is}
-use Rattle.integers.specs.Held.{Held, held_number, held-add, held_fits, held_back}
+use Rattle.integers.proofs.Theorems.Within.{within_le}
+use Rattle.integers.proofs.Theorems.Order.{pos-≤ℤ}
+use Rattle.integers.specs.Bits.{back}
+use Rattle.integers.proofs.Theorems.Bits.{back_is, result_is}
+use Rattle.integers.specs.Held.{Held}
+use Rattle.integers.proofs.Theorems.Held.{held_number, held-add, held_fits, held_back}
 use Rattle.edge.specs.declared.Edge.{Edge}
 use Rattle.edge.specs.Room.{Measured}
 use Rattle.edge.specs.Rounded.{root_term}
@@ -20,7 +22,7 @@ use Rattle.edge.specs.Nested.{OnRange, OnCell}
 use Rattle.edge.specs.WalkOf.{Decides}
 use Rattle.accuracy.specs.Outline.{Point}
 use Rattle.placement.specs.Placed.{placed}
-use Rattle.placement.specs.Laws.PlacedPoints.{placed-length}
+use Rattle.placement.proofs.Laws.PlacedPoints.{placed-length}
 use Rattle.rasterize.specs.declared.Spot.{Spot}
 use Rattle.contours.specs.declared.Run.{Run}
 use Rattle.contours.specs.Contour.{edge_of}

@@ -4,13 +4,14 @@ use Prim.Native.Nat.{◌-◌, ◌/◌, ◌<◌}
 use native.Mathlib.Nat.{le_of_eq, le_trans}
 use lib.ListN.{length}
 use Rattle.placement.specs.Placed.{placed}
-use Rattle.placement.specs.Laws.PlacedPoints.{placed-length}
-use Rattle.rasterize.specs.Laws.Fitting.{fits_le}
+use Rattle.placement.proofs.Laws.PlacedPoints.{placed-length}
+use Rattle.rasterize.proofs.Laws.Fitting.{fits_le}
 use native.Mathlib.Omega.{arith}
 use mir.Syntax.{w64}
 use mir.Val.{to_z}
-use Rattle.integers.specs.Bits.{back, back_is}
-use Rattle.integers.specs.Held.{held_number, held_within}
+use Rattle.integers.specs.Bits.{back}
+use Rattle.integers.proofs.Theorems.Bits.{back_is}
+use Rattle.integers.proofs.Theorems.Held.{held_number, held_within}
 use Rattle.accuracy.specs.Outline.{points_of, contour_edges}
 use Rattle.rasterize.specs.Added.{added}
 use Rattle.rasterize.specs.Laws.Sums.{edges_part}

@@ -7,15 +7,16 @@ use lib.ListN.{length}
 use lib.IntN.{ℤ, pos, ◌*ℤ◌}
 use mir.Facts.{to_z-of_z}
 use borrow.Author.Rules.{rules}
-use Rattle.integers.specs.Ring.{read, ring}
-use Rattle.integers.specs.Bits.{back, within_back}
+use Rattle.integers.proofs.Theorems.Ring.{read, ring}
+use Rattle.integers.specs.Bits.{back}
+use Rattle.integers.proofs.Theorems.Bits.{within_back}
 use Rattle.placement.specs.Placed.{placed}
-use Rattle.placement.specs.Laws.PlacedPoints.{placed-length}
+use Rattle.placement.proofs.Laws.PlacedPoints.{placed-length}
 use Rattle.rasterize.specs.declared.View.TheVariants.{Alone}
 use Rattle.rasterize.specs.Added.{added, entry_of}
 use Rattle.rasterize.specs.Views.{part_table}
-use Rattle.rasterize.specs.Laws.Adding.{added_same}
-use Rattle.rasterize.specs.Laws.Fitting.{fits_le}
+use Rattle.rasterize.proofs.Laws.Adding.{added_same}
+use Rattle.rasterize.proofs.Laws.Fitting.{fits_le}
 use Rattle.contours.specs.Contour.{edge_of, edges_from}
 use Rattle.contours.specs.Runs.{NextReady, HasRuns}
 use Rattle.contours.proofs.ContourLoop.{contour_edge, contour_one}

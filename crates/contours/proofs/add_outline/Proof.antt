@@ -8,12 +8,13 @@ use lib.ListN.{length, get_or, take, drop}
 use lib.IntN.{ℤ}
 use mir.Syntax.{w64}
 use mir.Val.{to_z}
-use Rattle.integers.specs.Bits.{back, back_is}
-use Rattle.integers.specs.Held.{held_number, held_within}
+use Rattle.integers.specs.Bits.{back}
+use Rattle.integers.proofs.Theorems.Bits.{back_is}
+use Rattle.integers.proofs.Theorems.Held.{held_number, held_within}
 use Rattle.integers.specs.ListSum.{All}
 use Rattle.accuracy.specs.Outline.{points_of, contours_of, contour_edges, outline_edges}
 use Rattle.placement.specs.Placed.{placed}
-use Rattle.placement.specs.Laws.PlacedPoints.{placed-length, placed_part, placeable_part}
+use Rattle.placement.proofs.Laws.PlacedPoints.{placed-length, placed_part, placeable_part}
 use Rattle.rasterize.specs.Ready.{Fits}
 use Rattle.rasterize.specs.Views.{InView}
 use Rattle.rasterize.specs.Added.{added}

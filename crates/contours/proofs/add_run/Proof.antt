@@ -6,20 +6,22 @@ use native.Mathlib.Omega.{arith}
 use lib.ListN.{length}
 use lib.IntN.{ℤ, ◌-ℤ◌}
 use Rattle.integers.specs.Units.{greatest_coordinate, detail_limit}
-use Rattle.integers.specs.Order.{pos-≤ℤ}
-use Rattle.integers.specs.Within.{within_le}
-use Rattle.integers.specs.Bits.{back, back_is, result_is}
-use Rattle.integers.specs.Held.{Held, held_fits, held_back, held_within}
+use Rattle.integers.proofs.Theorems.Order.{pos-≤ℤ}
+use Rattle.integers.proofs.Theorems.Within.{within_le}
+use Rattle.integers.specs.Bits.{back}
+use Rattle.integers.proofs.Theorems.Bits.{back_is, result_is}
+use Rattle.integers.specs.Held.{Held}
+use Rattle.integers.proofs.Theorems.Held.{held_fits, held_back, held_within}
 use Rattle.edge.specs.declared.Edge.{Edge}
 use Rattle.edge.specs.Room.{coordinate_limit, Measured}
 use Rattle.edge.specs.Rounded.{root_term}
 use Rattle.edge.specs.Nested.{OnCell}
 use Rattle.placement.specs.Placed.{placed}
-use Rattle.placement.specs.Laws.PlacedPoints.{placed-length}
+use Rattle.placement.proofs.Laws.PlacedPoints.{placed-length}
 use Rattle.rasterize.specs.Added.{added}
 use Rattle.rasterize.specs.Ready.{visits}
-use Rattle.rasterize.specs.Laws.Adding.{added-length}
-use Rattle.rasterize.specs.Laws.Spare.{spare_le}
+use Rattle.rasterize.proofs.Laws.Adding.{added-length}
+use Rattle.rasterize.proofs.Laws.Spare.{spare_le}
 use Rattle.contours.specs.declared.Run.{Run}
 use Rattle.contours.specs.Contour.{edge_of}
 use Rattle.contours.specs.Runs.{longest_run, triangle_limit, run_square, above, RunReady, chord_of, Along}

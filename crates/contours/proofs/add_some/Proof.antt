@@ -8,19 +8,19 @@ use lib.ListN.{length}
 use lib.IntN.{ℤ, pos, ◌*ℤ◌}
 use borrow.Author.Rules.{rules}
 use Rattle.integers.specs.Units.{greatest_depth}
-use Rattle.integers.specs.Order.{nonneg}
-use Rattle.integers.specs.Ring.{read, ring}
-use Rattle.integers.specs.Within.{within_self}
+use Rattle.integers.proofs.Theorems.Order.{nonneg}
+use Rattle.integers.proofs.Theorems.Ring.{read, ring}
+use Rattle.integers.proofs.Theorems.Within.{within_self}
 use Rattle.placement.specs.Placed.{placed}
-use Rattle.placement.specs.Laws.PlacedPoints.{placed-length}
+use Rattle.placement.proofs.Laws.PlacedPoints.{placed-length}
 use Rattle.rasterize.specs.declared.View.TheVariants.{Alone}
 use Rattle.rasterize.specs.Added.{added}
 use Rattle.rasterize.specs.Views.{InView}
-use Rattle.rasterize.specs.Laws.Adding.{added_same}
-use Rattle.rasterize.specs.Laws.EdgeAdded.{measured_in}
-use Rattle.rasterize.specs.Laws.Fitting.{fits_le}
-use Rattle.rasterize.specs.Laws.Spare.{spare_le}
-use Rattle.rasterize.specs.Laws.TurnedEdges.{seen_in_view}
+use Rattle.rasterize.proofs.Laws.Adding.{added_same}
+use Rattle.rasterize.proofs.Laws.EdgeAdded.{measured_in}
+use Rattle.rasterize.proofs.Laws.Fitting.{fits_le}
+use Rattle.rasterize.proofs.Laws.Spare.{spare_le}
+use Rattle.rasterize.proofs.Laws.TurnedEdges.{seen_in_view}
 use Rattle.edge.specs.Nested.{OnCell}
 use Rattle.contours.specs.Contour.{edge_of, edges_from}
 use Rattle.contours.specs.Runs.{run_square, NextReady}

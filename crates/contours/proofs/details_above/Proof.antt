@@ -6,15 +6,19 @@ use native.Mathlib.Omega.{arith}
 use lib.IntN.{ℤ, pos, ◌+ℤ◌, ◌-ℤ◌, ◌*ℤ◌}
 use lib.Signed.{mag}
 use Rattle.integers.specs.Units.{greatest_side, greatest_coordinate}
-use Rattle.integers.specs.HalfSign.{half_sign, half_sign_cases}
-use Rattle.integers.specs.Order.{pos-≤ℤ, nonneg}
-use Rattle.integers.specs.Ring.{read, ring}
-use Rattle.integers.specs.Within.{Within, within_le, within_self, within_add, within_sub, within_mul, within_sign}
-use Rattle.integers.specs.Bits.{back, back_is, within_back, fits_within, result_is}
-use Rattle.integers.specs.Held.{Held, held_number, held-add, held_sub, held-mul, held_fits, held_back, held_within}
+use Rattle.integers.specs.HalfSign.{half_sign}
+use Rattle.integers.proofs.Theorems.HalfSign.{half_sign_cases}
+use Rattle.integers.proofs.Theorems.Order.{pos-≤ℤ, nonneg}
+use Rattle.integers.proofs.Theorems.Ring.{read, ring}
+use Rattle.integers.specs.Within.{Within}
+use Rattle.integers.proofs.Theorems.Within.{within_le, within_self, within_add, within_sub, within_mul, within_sign}
+use Rattle.integers.specs.Bits.{back}
+use Rattle.integers.proofs.Theorems.Bits.{back_is, within_back, fits_within, result_is}
+use Rattle.integers.specs.Held.{Held}
+use Rattle.integers.proofs.Theorems.Held.{held_number, held-add, held_sub, held-mul, held_fits, held_back, held_within}
 use Rattle.edge.specs.Walk.{dx, dy}
 use Rattle.edge.specs.Code.{turned}
-use Rattle.edge.specs.Lemmas.Records.{details-eq}
+use Rattle.edge.proofs.Lemmas.Records.{details-eq}
 use Rattle.contours.specs.Runs.{longest_run, triangle_limit, from_half}
 use Rattle.contours.proofs.details_above.Statement.{statement}
 use Rattle.contours.proofs.details_above.Tie as tie

@@ -1,7 +1,7 @@
 -- From point k, as placed.
 use mathlib.Core.Path.{◌∙◌}
 use native.Mathlib.Omega.{arith}
-use Rattle.integers.specs.Bits.{field_is}
+use Rattle.integers.proofs.Theorems.Bits.{field_is}
 use Rattle.contours.proofs.edge_from.Statement.{statement}
 use Rattle.contours.proofs.edge_from.Tie as tie
 

@@ -9,7 +9,7 @@ use Rattle.accuracy.specs.Outline.{point_at, edge_between}
 use Rattle.placement.specs.Placed.{placed}
 use borrow.Author.Rules.{rules}
 use borrow.Author.Tests.{lt-ltb, le-ltb}
-use Rattle.integers.specs.Bits.{field_is}
+use Rattle.integers.proofs.Theorems.Bits.{field_is}
 use Rattle.contours.specs.Contour.{next}
 use Rattle.contours.proofs.edge_to_next.Statement.{statement}
 use Rattle.contours.proofs.edge_to_next.Tie as tie

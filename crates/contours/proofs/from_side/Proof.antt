@@ -8,11 +8,12 @@ use mir.Syntax.{w64}
 use mir.Val.{to_z}
 use mir.Facts.{to_z_pos}
 use Rattle.integers.specs.Units.{greatest_side, greatest_coordinate}
-use Rattle.integers.specs.Order.{pos-≤ℤ, nonneg}
-use Rattle.integers.specs.Ring.{read, ring}
-use Rattle.integers.specs.Within.{within_le, within_self}
+use Rattle.integers.proofs.Theorems.Order.{pos-≤ℤ, nonneg}
+use Rattle.integers.proofs.Theorems.Ring.{read, ring}
+use Rattle.integers.proofs.Theorems.Within.{within_le, within_self}
 use Rattle.integers.specs.Bits.{back}
-use Rattle.integers.specs.Held.{Held, held_number, held-add, held_sub, held-mul, held_fits, held_back}
+use Rattle.integers.specs.Held.{Held}
+use Rattle.integers.proofs.Theorems.Held.{held_number, held-add, held_sub, held-mul, held_fits, held_back}
 use Rattle.contours.specs.Runs.{from_half}
 use Rattle.contours.proofs.from_side.Statement.{statement}
 use Rattle.contours.proofs.from_side.Tie as tie

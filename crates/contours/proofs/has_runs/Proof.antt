@@ -6,10 +6,10 @@ use native.Mathlib.Omega.{arith}
 use mir.Syntax.{w64}
 use mir.Val.{of_z}
 use borrow.Author.Rules.{rules}
-use Rattle.integers.specs.Tests.{eqb_means, ltb_means}
-use Rattle.integers.specs.Within.{within_self}
-use Rattle.integers.specs.Order.{nonneg}
-use Rattle.integers.specs.Bits.{fits_within, same_bits}
+use Rattle.integers.proofs.Theorems.Tests.{eqb_means, ltb_means}
+use Rattle.integers.proofs.Theorems.Within.{within_self}
+use Rattle.integers.proofs.Theorems.Order.{nonneg}
+use Rattle.integers.proofs.Theorems.Bits.{fits_within, same_bits}
 use Rattle.contours.proofs.has_runs.Statement.{statement}
 use Rattle.contours.proofs.has_runs.Tie as tie
 

@@ -3,7 +3,7 @@ use mathlib.Core.Path.{sym, ◌∙◌, subst, subst⁻¹}
 use mathlib.Core.Bool.{true≢false}
 use Prim.Native.Nat.{◌<◌}
 use native.Mathlib.Omega.{arith}
-use Rattle.integers.specs.Tests.{ltb_means}
+use Rattle.integers.proofs.Theorems.Tests.{ltb_means}
 use Rattle.contours.proofs.is_cell.Statement.{statement}
 use Rattle.contours.proofs.is_cell.Tie as tie
 

@@ -8,11 +8,13 @@ use mir.Syntax.{w64}
 use mir.Val.{SFits, to_z}
 use mir.Facts.{to_z-of_z, to_z_pos}
 use Rattle.integers.specs.Units.{greatest_side}
-use Rattle.integers.specs.Order.{pos-≤ℤ, nonneg}
-use Rattle.integers.specs.Within.{within_le, within_self}
+use Rattle.integers.proofs.Theorems.Order.{pos-≤ℤ, nonneg}
+use Rattle.integers.proofs.Theorems.Within.{within_le, within_self}
 use Rattle.integers.specs.Bits.{back}
-use Rattle.integers.specs.Held.{Held, held-add, held-mul, held_fits, held_back}
-use Rattle.integers.specs.Tests.{between, between_means}
+use Rattle.integers.specs.Held.{Held}
+use Rattle.integers.proofs.Theorems.Held.{held-add, held-mul, held_fits, held_back}
+use Rattle.integers.specs.Tests.{between}
+use Rattle.integers.proofs.Theorems.Tests.{between_means}
 use Rattle.edge.specs.Nested.{OnRange}
 use Rattle.edge.specs.WalkOf.{Decides}
 use Rattle.contours.specs.Runs.{widest_run}

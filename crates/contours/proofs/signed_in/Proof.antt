@@ -4,8 +4,8 @@ use mathlib.Core.List.{[], ◌∷◌}
 use native.Mathlib.Omega.{arith}
 use lib.IntN.{◌*ℤ◌}
 use Rattle.integers.specs.HalfSign.{half_sign}
-use Rattle.integers.specs.Ring.{read, ring}
-use Rattle.integers.specs.Held.{held_number, held-neg, held_fits, held_back}
+use Rattle.integers.proofs.Theorems.Ring.{read, ring}
+use Rattle.integers.proofs.Theorems.Held.{held_number, held-neg, held_fits, held_back}
 use Rattle.contours.proofs.signed_in.Statement.{statement}
 use Rattle.contours.proofs.signed_in.Tie as tie
 

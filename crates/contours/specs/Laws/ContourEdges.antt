@@ -11,12 +11,14 @@ use Rattle.std.proofs.Common.{sym, ◌∙◌, ap, ap₂, subst, arith, add-one, 
 use Rattle.std.proofs.Math.Decide.{dec_lt}
 use Rattle.std.proofs.Math.ListN.{get_or-append}
 use Rattle.std.proofs.lemmas.List.{get_or_at}
-use Rattle.integers.specs.ListSum.{All, all_entry, total, total-entries}
-use Rattle.integers.specs.RangeSum.{Σ<, Σ_cong}
+use Rattle.integers.specs.ListSum.{All, total}
+use Rattle.integers.proofs.Theorems.ListSum.{all_entry, total-entries}
+use Rattle.integers.specs.RangeSum.{Σ<}
+use Rattle.integers.proofs.Theorems.RangeSum.{Σ_cong}
 use Rattle.edge.specs.declared.Edge.{Edge}
 use Rattle.accuracy.specs.Outline.{Point, points_of, edge_between, through, contour_edges}
-use Rattle.accuracy.specs.Laws.Contours.{contour_edges-length}
-use Rattle.accuracy.specs.Laws.Coordinates.{points_of-length, points_of_entry}
+use Rattle.accuracy.proofs.Laws.Contours.{contour_edges-length}
+use Rattle.accuracy.proofs.Laws.Coordinates.{points_of-length, points_of_entry}
 use Rattle.contours.specs.Contour.{next, edge_of}
 
 -- ---- the next point

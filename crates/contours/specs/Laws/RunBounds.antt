@@ -8,16 +8,18 @@
 use Rattle.std.specs.Prelude.{◌≡◌, refl, [], ◌∷◌, ℕ, ◌+◌, ◌*◌, ◌-◌, ◌/◌, ◌^◌, ◌<◌, ◌≤◌, ℤ, pos, ◌+ℤ◌, ◌-ℤ◌, ◌*ℤ◌}
 use Rattle.std.proofs.Common.{arith, mul-le-mul, mul-le-mul_left, pow_mono}
 use Rattle.integers.specs.Units.{steps_per_pixel, greatest_depth, greatest_coordinate}
-use Rattle.integers.specs.Ring.{read, ring}
-use Rattle.integers.specs.Order.{nonneg, pos-≤ℤ}
-use Rattle.integers.specs.HalfSign.{half_sign, half_sign_cases}
-use Rattle.integers.specs.Within.{Within, within_le, within_is, within_add, within_sub, within_mul, within_sign}
+use Rattle.integers.proofs.Theorems.Ring.{read, ring}
+use Rattle.integers.proofs.Theorems.Order.{nonneg, pos-≤ℤ}
+use Rattle.integers.specs.HalfSign.{half_sign}
+use Rattle.integers.proofs.Theorems.HalfSign.{half_sign_cases}
+use Rattle.integers.specs.Within.{Within}
+use Rattle.integers.proofs.Theorems.Within.{within_le, within_is, within_add, within_sub, within_mul, within_sign}
 use Rattle.edge.specs.declared.Edge.{Edge}
 use Rattle.edge.specs.declared.Cell.{Cell as Square}
 use Rattle.edge.specs.declared.Details.{Details}
 use Rattle.edge.specs.Rounded.{details, root_term, DetailsWithin}
 use Rattle.edge.specs.Nested.{OnCell}
-use Rattle.edge.specs.Laws.Cells.{difference_on, details_on}
+use Rattle.edge.proofs.Laws.Cells.{difference_on, details_on}
 use Rattle.haar.specs.Plane.{at}
 use Rattle.accuracy.specs.Outline.{Point, edge_between}
 use Rattle.accuracy.specs.Tile.{cell_width, square}

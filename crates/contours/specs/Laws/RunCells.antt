@@ -9,8 +9,8 @@
 use Rattle.std.specs.Prelude.{◌≡◌, [], ◌∷◌, ℕ, ◌+◌, ◌*◌, ◌-◌, ◌^◌, ◌<◌, ◌≤◌, ℤ, pos}
 use Rattle.std.proofs.Common.{sym, ap, arith, pow_mono}
 use Rattle.integers.specs.Units.{steps_per_pixel, greatest_depth, greatest_coordinate}
-use Rattle.integers.specs.Order.{pos-≤ℤ, nonneg}
-use Rattle.integers.specs.Linear.{le, ◌&◌, linear, lin≤}
+use Rattle.integers.proofs.Theorems.Order.{pos-≤ℤ, nonneg}
+use Rattle.integers.proofs.Theorems.Linear.{le, ◌&◌, linear, lin≤}
 use Rattle.integers.specs.Within.{Within}
 use Rattle.edge.specs.declared.Edge.{Edge}
 use Rattle.edge.specs.Nested.{OnRange, OnCell}

@@ -8,10 +8,11 @@ use Rattle.std.specs.Prelude.{◌≡◌, refl, [], ◌∷◌, ℕ, zero, suc, �
 use Rattle.std.proofs.Common.{sym, ◌∙◌, ap, ap₂, arith}
 use Rattle.std.proofs.Math.Path.{subst⁻¹}
 use Rattle.std.proofs.Math.IntN.{pos}
-use Rattle.integers.specs.Ring.{read, ring, comb, ◌⊗◌}
-use Rattle.integers.specs.Linear.{le, eq, ◌&◌, linear, lin≤, lin≡}
+use Rattle.integers.proofs.Theorems.Ring.{read, ring, comb, ◌⊗◌}
+use Rattle.integers.proofs.Theorems.Linear.{le, eq, ◌&◌, linear, lin≤, lin≡}
 use Rattle.integers.specs.HalfSign.{half_sign}
-use Rattle.integers.specs.Magnitude.{abs, abs-nonneg}
+use Rattle.integers.specs.Magnitude.{abs}
+use Rattle.integers.proofs.Theorems.Magnitude.{abs-nonneg}
 use Rattle.edge.specs.declared.Edge.{Edge}
 use Rattle.edge.specs.declared.Cell.{Cell as Square}
 use Rattle.edge.specs.declared.Details.{Details}
@@ -19,9 +20,9 @@ use Rattle.edge.specs.Walk.{dx, dy}
 use Rattle.edge.specs.Rounded.{details, root_term}
 use Rattle.edge.specs.Nested.{quarter, OnRange, OnCell}
 use Rattle.edge.specs.Code.{before_middle, half_with, turned}
-use Rattle.edge.specs.Lemmas.Records.{details-eq}
-use Rattle.edge.specs.Laws.Cells.{HalfView, first, second, half_view}
-use Rattle.edge.specs.Laws.InQuarter.{in_quarter}
+use Rattle.edge.proofs.Lemmas.Records.{details-eq}
+use Rattle.edge.proofs.Laws.Cells.{HalfView, first, second, half_view}
+use Rattle.edge.proofs.Laws.InQuarter.{in_quarter}
 use Rattle.accuracy.specs.Outline.{Point, edge_between}
 use Rattle.accuracy.specs.ExactDetails.{numbered}
 use Rattle.contours.specs.Runs.{with_area, triangle, from_half, details_in}

@@ -10,18 +10,18 @@
 use Rattle.std.specs.Prelude.{◌≡◌, [], ◌∷◌, ℕ, zero, suc, ◌-◌, ◌/◌, ◌%◌, ◌^◌, ◌<◌, ◌≤◌, ℤ, pos, ◌+ℤ◌}
 use Rattle.std.proofs.Common.{sym, ◌∙◌, ap, ap₂, subst, arith, pow-suc, div-one}
 use Rattle.std.proofs.Math.Nat.{pow-succ', div-div-eq-div-mul}
-use Rattle.integers.specs.Ring.{read, ring, comb}
-use Rattle.integers.specs.Order.{nonneg, ≤ℤ_trans}
-use Rattle.integers.specs.RangeSum.{Σ-zero, Σ-suc, Σ_cong, Σ-add}
+use Rattle.integers.proofs.Theorems.Ring.{read, ring, comb}
+use Rattle.integers.proofs.Theorems.Order.{nonneg, ≤ℤ_trans}
+use Rattle.integers.proofs.Theorems.RangeSum.{Σ-zero, Σ-suc, Σ_cong, Σ-add}
 use Rattle.edge.specs.declared.Edge.{Edge}
 use Rattle.edge.specs.declared.Cell.{Cell as Square}
 use Rattle.edge.specs.Rounded.{details, root_term}
 use Rattle.edge.specs.Nested.{quarter, Contains, OnCell}
-use Rattle.edge.specs.Laws.Cells.{contains_quarter}
+use Rattle.edge.proofs.Laws.Cells.{contains_quarter}
 use Rattle.haar.specs.Plane.{at}
 use Rattle.accuracy.specs.Outline.{Point, edge_between}
 use Rattle.accuracy.specs.Tile.{cell_width, square}
-use Rattle.accuracy.specs.Laws.Squares.{cell_width-halves, square-quarter}
+use Rattle.accuracy.proofs.Laws.Squares.{cell_width-halves, square-quarter}
 use Rattle.rasterize.specs.Nodes.{node_at}
 use Rattle.rasterize.specs.Contribution.{first_detail}
 use Rattle.contours.specs.Runs.{ancestor, half_at, part_in, level_part, above, triangle, details_in}

@@ -10,26 +10,26 @@ use Rattle.std.proofs.Common.{sym, ◌∙◌, ap, ap₂, subst, arith, pow-suc}
 use Rattle.std.proofs.Math.Path.{subst⁻¹}
 use Rattle.std.proofs.Math.Nat.{div-eq_of_lt}
 use Rattle.integers.specs.Units.{greatest_depth}
-use Rattle.integers.specs.Ring.{read, ring, comb, ◌⊕◌}
-use Rattle.integers.specs.Linear.{le, linear, lin≤}
+use Rattle.integers.proofs.Theorems.Ring.{read, ring, comb, ◌⊕◌}
+use Rattle.integers.proofs.Theorems.Linear.{le, linear, lin≤}
 use Rattle.edge.specs.declared.Edge.{Edge}
 use Rattle.edge.specs.declared.Details.{Details}
 use Rattle.edge.specs.Rounded.{details}
 use Rattle.edge.specs.Nested.{OnRange, OnCell}
-use Rattle.edge.specs.Lemmas.Records.{details-eq}
+use Rattle.edge.proofs.Lemmas.Records.{details-eq}
 use Rattle.haar.specs.Plane.{at}
 use Rattle.accuracy.specs.Outline.{Point, edge_between}
 use Rattle.accuracy.specs.Tile.{square, tile, EdgeOnTile, CellOf}
-use Rattle.accuracy.specs.Laws.Squares.{square-tile}
+use Rattle.accuracy.proofs.Laws.Squares.{square-tile}
 use Rattle.rasterize.specs.declared.Node.{Node}
 use Rattle.rasterize.specs.Nodes.{quarter_node, node_at}
 use Rattle.rasterize.specs.Contribution.{first_detail, own_part, contribution}
 use Rattle.rasterize.specs.Ready.{OnSheet}
 use Rattle.contours.specs.Runs.{with_area, part_in, above, triangle}
-use Rattle.rasterize.specs.Laws.Nodes.{quarter_node_at}
-use Rattle.rasterize.specs.Laws.OnSheet.{quarter_on_sheet}
-use Rattle.rasterize.specs.Laws.Contributions.{contribution-quarter}
-use Rattle.rasterize.specs.Laws.EdgesInView.{in_view_alone}
+use Rattle.rasterize.proofs.Laws.Nodes.{quarter_node_at}
+use Rattle.rasterize.proofs.Laws.OnSheet.{quarter_on_sheet}
+use Rattle.rasterize.proofs.Laws.Contributions.{contribution-quarter}
+use Rattle.rasterize.proofs.Laws.EdgesInView.{in_view_alone}
 use Rattle.contours.specs.Laws.Runs.{on_ancestor, parent_on, above_zero, above-suc, above_join}
 
 -- ---- on the tile

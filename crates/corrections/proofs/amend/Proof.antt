@@ -12,7 +12,8 @@ use mir.Val.{SFits}
 use mir.Facts.{to_z-of_z}
 use borrow.Author.Rules.{rules}
 use borrow.Author.Tests.{le-leb, lt-leb, not-true, not-false}
-use Rattle.integers.specs.Bits.{back, result_is}
+use Rattle.integers.specs.Bits.{back}
+use Rattle.integers.proofs.Theorems.Bits.{result_is}
 use Rattle.integers.specs.Within.{Within}
 use Rattle.integers.specs.ListSum.{All}
 use Rattle.edge.specs.declared.Edge.{Edge}
@@ -21,18 +22,18 @@ use Rattle.rasterize.specs.declared.View.{View}
 use Rattle.rasterize.specs.Added.{added}
 use Rattle.rasterize.specs.Ready.{Fits}
 use Rattle.rasterize.specs.Views.{InView}
-use Rattle.rasterize.specs.Laws.Adding.{added_same, added_undone}
+use Rattle.rasterize.proofs.Laws.Adding.{added_same, added_undone}
 use Rattle.rasterize.specs.Laws.Sums.{edges_part}
 use Rattle.chords.specs.Sides.{marked_contour}
 use Rattle.chords.specs.Chords.{contour_chords}
 use Rattle.tile.specs.Questions.{Yes, depth_of, first_no, question9}
-use Rattle.tile.specs.Laws.IfDone.{if_done_lem, if_refused}
+use Rattle.tile.proofs.Laws.IfDone.{if_done_lem, if_refused}
 use Rattle.sheet.specs.declared.Site.{Site}
 use Rattle.sheet.specs.Sites.{tile_side, view_at, entries_at}
-use Rattle.sheet.specs.Laws.SiteEdges.{site_entries}
+use Rattle.sheet.proofs.Laws.SiteEdges.{site_entries}
 use Rattle.corrections.specs.Corrections.{Tile, tile_of, sign_of, question13, question9_twice, taken_out}
 use Rattle.corrections.specs.Amending.{left_by, amend_refusal, amended}
-use Rattle.corrections.specs.Laws.AskedContour.{sign_within}
+use Rattle.corrections.proofs.Laws.AskedContour.{sign_within}
 use Rattle.corrections.proofs.Correcting.{on_sheet, in_view, fits_contour, fits_again, opposite-fits, back_within}
 use Rattle.corrections.proofs.amend.Statement.{statement}
 use Rattle.corrections.proofs.amend.Tie as tie

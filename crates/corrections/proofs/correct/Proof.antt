@@ -12,23 +12,23 @@ use Rattle.integers.specs.Units.{most_points}
 use Rattle.integers.specs.ListSum.{tally}
 use Rattle.edge.specs.declared.Edge.{Edge}
 use Rattle.placement.specs.Placed.{placed}
-use Rattle.placement.specs.Laws.PlacedPoints.{placed-length}
+use Rattle.placement.proofs.Laws.PlacedPoints.{placed-length}
 use Rattle.accuracy.specs.Outline.{contour_edges}
 use Rattle.chords.specs.Sides.{numbers, marked_contour}
 use Rattle.chords.specs.Chords.{contour_chords}
-use Rattle.chords.specs.AllStraight.{straight_contour, zeros-numbers, zeros-take}
+use Rattle.chords.proofs.Theorems.AllStraight.{straight_contour, zeros-numbers, zeros-take}
 use Rattle.tile.specs.Questions.{Question, first_no, outline_questions}
 use Rattle.tile.specs.Outcomes.{if_done}
-use Rattle.tile.specs.Refusals.{question3_means, question4_means}
-use Rattle.tile.specs.Laws.IfDone.{if_refused}
-use Rattle.tile.specs.Laws.Asking.{first_refused, first_passed}
+use Rattle.tile.proofs.Theorems.Refusals.{question3_means, question4_means}
+use Rattle.tile.proofs.Laws.IfDone.{if_refused}
+use Rattle.tile.proofs.Laws.Asking.{first_refused, first_passed}
 use Rattle.sheet.specs.declared.Site.{Site}
 use Rattle.sheet.specs.Sites.{reach, site_questions}
-use Rattle.sheet.specs.Laws.SiteEdges.{site_zero}
+use Rattle.sheet.proofs.Laws.SiteEdges.{site_zero}
 use Rattle.corrections.specs.Corrections.{Call, Tile, call_of, tile_of, contour_of, already_in, contour_questions, tile_questions, edges_after, would_leave, correct_refusal, corrected}
 use Rattle.corrections.specs.Amending.{Amendable, amend_refusal, amended}
-use Rattle.corrections.specs.Laws.Answered.{AskedYes, asked_yes, contour_zero}
-use Rattle.corrections.specs.Laws.AskedContour.{few_edges, contour_edge-count}
+use Rattle.corrections.proofs.Laws.Answered.{AskedYes, asked_yes, contour_zero}
+use Rattle.corrections.proofs.Laws.AskedContour.{few_edges, contour_edge-count}
 use Rattle.corrections.proofs.correct.Statement.{statement}
 use Rattle.corrections.proofs.correct.Tie as tie
 

@@ -4,7 +4,7 @@ use mathlib.Core.List.{◌∷◌}
 use Rattle.sheet.specs.declared.Site.TheVariants.{OnSheet}
 use Rattle.corrections.specs.Corrections.{tile_of, putting_on, contour_of}
 use Rattle.corrections.specs.Holding.{HoldsContours}
-use Rattle.corrections.specs.Laws.Kept.{holds_put}
+use Rattle.corrections.proofs.Laws.Kept.{holds_put}
 use Rattle.corrections.proofs.put_on_sheet.Goals as goal
 
 pub returns-clause-holds_one_more : goal.returns-clause-holds_one_more

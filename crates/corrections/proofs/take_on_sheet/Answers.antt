@@ -3,7 +3,7 @@ use mathlib.Core.Path.{refl, subst⁻¹}
 use Rattle.sheet.specs.declared.Site.TheVariants.{OnSheet}
 use Rattle.corrections.specs.Corrections.{tile_of, taking_on}
 use Rattle.corrections.specs.Holding.{HoldsContours}
-use Rattle.corrections.specs.Laws.Kept.{holds_taken}
+use Rattle.corrections.proofs.Laws.Kept.{holds_taken}
 use Rattle.corrections.proofs.take_on_sheet.Goals as goal
 
 pub returns-clause-holds_one_less : goal.returns-clause-holds_one_less

@@ -3,9 +3,10 @@ use Rattle.std.proofs.Common.{◌≡◌, sym, ◌∙◌, ap, ap₂, ℤ, pos, ne
 use Rattle.integers.specs.Units.{most_splits}
 use Rattle.integers.specs.Tests.{between}
 use Rattle.integers.specs.Within.{Within}
-use Rattle.integers.specs.Conjunction.{second_decides}
-use Rattle.integers.specs.Bits.{back, back_is}
-use Rattle.integers.specs.Held.{held_number, held-neg, held_back}
+use Rattle.integers.proofs.Theorems.Conjunction.{second_decides}
+use Rattle.integers.specs.Bits.{back}
+use Rattle.integers.proofs.Theorems.Bits.{back_is}
+use Rattle.integers.proofs.Theorems.Held.{held_number, held-neg, held_back}
 use Rattle.curve.specs.Curve.{bend_limit}
 use Rattle.curve.proofs.are_within.Goals as goal
 

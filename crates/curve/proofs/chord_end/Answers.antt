@@ -3,9 +3,9 @@ use Rattle.std.proofs.Common.{◌≡◌, ◌∙◌, ap, ap₂, ℕ, ◌^◌, ◌
 use Rattle.std.proofs.Math.Facts.{to_z_pos}
 use Rattle.integers.specs.Units.{most_splits, most_chords}
 use Rattle.integers.specs.Rounding.{round_half_up}
-use Rattle.integers.specs.Bits.{result_is}
+use Rattle.integers.proofs.Theorems.Bits.{result_is}
 use Rattle.curve.specs.Curve.{curve_num, chord_end}
-use Rattle.curve.specs.Laws.ChordEnds.{power_square}
+use Rattle.curve.proofs.Laws.ChordEnds.{power_square}
 use Rattle.curve.proofs.chord_end.Goals as goal
 
 -- by the numbers that the function was given

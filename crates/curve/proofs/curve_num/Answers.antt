@@ -1,10 +1,11 @@
 -- The products and their sum: none passes 2^32.
 use Rattle.std.proofs.Common.{refl, ℕ, ◌+◌, ◌*◌, ℤ, pos, ◌-ℤ◌, ◌*ℤ◌}
 use Rattle.integers.specs.Units.{greatest_sheet_coordinate, most_chords}
-use Rattle.integers.specs.Order.{nonneg}
-use Rattle.integers.specs.Within.{within_self}
+use Rattle.integers.proofs.Theorems.Order.{nonneg}
+use Rattle.integers.proofs.Theorems.Within.{within_self}
 use Rattle.integers.specs.Bits.{back}
-use Rattle.integers.specs.Held.{Held, held_number, held-add, held_sub, held-mul, held_fits, held_back}
+use Rattle.integers.specs.Held.{Held}
+use Rattle.integers.proofs.Theorems.Held.{held_number, held-add, held_sub, held-mul, held_fits, held_back}
 use Rattle.curve.proofs.curve_num.Goals as goal
 
 two : Held 2 (pos 2) (pos 2)

@@ -2,14 +2,17 @@
 use Rattle.std.proofs.Common.{◌≡◌, refl, ◌∙◌, ap₂, subst, [], ◌∷◌, ℕ, ◌+◌, ◌*◌, ◌^◌, ltb→lt, ℤ, pos, negsuc, nat_abs, ◌+ℤ◌, ◌*ℤ◌, ◌≤ℤ◌, ◌<ℤ◌, w64, SFits, to_z-of_z}
 use Rattle.std.proofs.Math.Path.{subst⁻¹}
 use Rattle.std.specs.Int.Signed.{quot_z}
-use Rattle.integers.specs.Order.{nonneg, ≤ℤ_of_<ℤ}
-use Rattle.integers.specs.Linear.{le, lt, eq, ◌&◌, linear, lin≤, lin<}
-use Rattle.integers.specs.Within.{within_self, within_le}
+use Rattle.integers.proofs.Theorems.Order.{nonneg, ≤ℤ_of_<ℤ}
+use Rattle.integers.proofs.Theorems.Linear.{le, lt, eq, ◌&◌, linear, lin≤, lin<}
+use Rattle.integers.proofs.Theorems.Within.{within_self, within_le}
 use Rattle.integers.specs.Rounding.{round_half_up}
-use Rattle.integers.specs.RoundHalfUp.{UpBounds, round_half_up_of_bounds}
-use Rattle.integers.specs.Division.{Truncated, truncated, quot_fits}
+use Rattle.integers.specs.RoundHalfUp.{UpBounds}
+use Rattle.integers.proofs.Theorems.RoundHalfUp.{round_half_up_of_bounds}
+use Rattle.integers.specs.Division.{Truncated}
+use Rattle.integers.proofs.Theorems.Division.{truncated, quot_fits}
 use Rattle.integers.specs.Bits.{back}
-use Rattle.integers.specs.Held.{Held, held_number, held-add, held-mul, held_fits, held_back}
+use Rattle.integers.specs.Held.{Held}
+use Rattle.integers.proofs.Theorems.Held.{held_number, held-add, held-mul, held_fits, held_back}
 use Rattle.curve.proofs.round_half_up.Goals as goal
 
 abbrev limit : ℕ

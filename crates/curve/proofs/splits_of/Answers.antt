@@ -3,9 +3,10 @@ use Rattle.std.proofs.Common.{◌≡◌, refl, sym, ◌∙◌, ap, ap₂, Bool, 
 use Rattle.std.proofs.Math.Nat.{pow-succ', pow-le-pow_right}
 use Rattle.integers.specs.Units.{most_splits}
 use Rattle.integers.specs.Tests.{between}
-use Rattle.integers.specs.Order.{nonneg, pos-≤ℤ}
-use Rattle.integers.specs.Within.{within_le, within_self}
-use Rattle.integers.specs.Held.{Held, held-mul, held_fits, held_back, held_within}
+use Rattle.integers.proofs.Theorems.Order.{nonneg, pos-≤ℤ}
+use Rattle.integers.proofs.Theorems.Within.{within_le, within_self}
+use Rattle.integers.specs.Held.{Held}
+use Rattle.integers.proofs.Theorems.Held.{held-mul, held_fits, held_back, held_within}
 use Rattle.curve.specs.Curve.{flat, splits_from, splits}
 use Rattle.curve.proofs.splits_of.Goals as goal
 

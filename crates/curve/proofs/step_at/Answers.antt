@@ -2,12 +2,15 @@
 use Rattle.std.proofs.Common.{◌≡◌, ◌∙◌, ap, ap₂, [], ◌∷◌, ◌*◌, ◌^◌, ℤ, pos, nat_abs, ◌*ℤ◌, ◌≤ℤ◌, ◌<ℤ◌, to_z-of_z}
 use Rattle.std.proofs.Math.Path.{subst⁻¹}
 use Rattle.integers.specs.Units.{greatest_sheet_coordinate, most_chords}
-use Rattle.integers.specs.Order.{≤ℤ_trans, ≤ℤ-mul}
-use Rattle.integers.specs.Linear.{le, ◌&◌, linear, lin≤, lin<}
-use Rattle.integers.specs.Within.{Within, within_le, within_self}
+use Rattle.integers.proofs.Theorems.Order.{≤ℤ_trans, ≤ℤ-mul}
+use Rattle.integers.proofs.Theorems.Linear.{le, ◌&◌, linear, lin≤, lin<}
+use Rattle.integers.specs.Within.{Within}
+use Rattle.integers.proofs.Theorems.Within.{within_le, within_self}
 use Rattle.integers.specs.Rounding.{round_half_up}
-use Rattle.integers.specs.Bits.{back, result_is}
-use Rattle.integers.specs.Held.{Held, held_number, held-mul, held_fits, held_back}
+use Rattle.integers.specs.Bits.{back}
+use Rattle.integers.proofs.Theorems.Bits.{result_is}
+use Rattle.integers.specs.Held.{Held}
+use Rattle.integers.proofs.Theorems.Held.{held_number, held-mul, held_fits, held_back}
 use Rattle.curve.specs.Curve.{curve_num}
 use Rattle.curve.proofs.Numerators.{num_low, num_high}
 use Rattle.curve.proofs.step_at.Goals as goal

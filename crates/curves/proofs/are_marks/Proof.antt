@@ -5,7 +5,7 @@ use lib.ListN.{length, drop}
 use borrow.Author.Rules.{rules}
 use borrow.Author.Tests.{le-leb, lt-leb}
 use Rattle.integers.specs.Tests.{every}
-use Rattle.integers.specs.Every.{every_fails, every_next, every_end}
+use Rattle.integers.proofs.Theorems.Every.{every_fails, every_next, every_end}
 use Rattle.curves.specs.MarkedQuestions.{is_mark}
 use Rattle.curves.proofs.are_marks.Statement.{statement}
 use Rattle.curves.proofs.are_marks.Tie as tie

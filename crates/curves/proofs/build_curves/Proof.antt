@@ -16,17 +16,18 @@ use Rattle.rasterize.specs.Views.{InView}
 use Rattle.rasterize.specs.Laws.Sums.{edges_part}
 use Rattle.tile.specs.Questions.{Question, Yes, depth_of}
 use Rattle.tile.specs.Outcomes.{if_done}
-use Rattle.tile.specs.Refusals.{question2_means}
-use Rattle.tile.specs.Laws.IfDone.{if_done_lem, if_refused}
-use Rattle.tile.specs.Laws.Asking.{first_refused, first_passed}
-use Rattle.tile.specs.Laws.Building.{cleared_fits, cleared_built}
+use Rattle.tile.proofs.Theorems.Refusals.{question2_means}
+use Rattle.tile.proofs.Laws.IfDone.{if_done_lem, if_refused}
+use Rattle.tile.proofs.Laws.Asking.{first_refused, first_passed}
+use Rattle.tile.proofs.Laws.Building.{cleared_fits, cleared_built}
 use Rattle.sheet.specs.declared.Site.{Site}
 use Rattle.sheet.specs.Sites.{tile_side, reach, SiteYes, site_questions, view_at}
-use Rattle.sheet.specs.Laws.SiteEdges.{site_side, site_zero, site_answers, reach-le, site_in_view, site_entries}
+use Rattle.sheet.proofs.Laws.SiteEdges.{site_side, site_zero, site_answers, reach-le, site_in_view, site_entries}
 use Rattle.curves.specs.MarkedQuestions.{edges_marked, marked_questions}
 use Rattle.curves.specs.CurveOutcomes.{marked_result, curves_refusal, curves_result, curves_table}
 use Rattle.curves.specs.FaithfulCurves.{FaithfulCurves}
-use Rattle.curves.specs.CurveTheorem.{AcceptedMarked, curves_accepted, curves_faithful}
+use Rattle.curves.specs.CurveTheorem.{AcceptedMarked}
+use Rattle.curves.proofs.Theorems.CurveTheorem.{curves_accepted, curves_faithful}
 use Rattle.curves.proofs.build_curves.Statement.{statement}
 use Rattle.curves.proofs.build_curves.Tie as tie
 

@@ -6,22 +6,24 @@ use Prim.Native.Nat.{ℕ}
 use native.Mathlib.Omega.{arith}
 use lib.ListN.{length}
 use borrow.Author.Rules.{rules}
-use Rattle.integers.specs.ListSum.{All, all_append, tally}
+use Rattle.integers.specs.ListSum.{All, tally}
+use Rattle.integers.proofs.Theorems.ListSum.{all_append}
 use Rattle.tile.specs.Questions.{Question, Yes, first_no}
 use Rattle.tile.specs.Outcomes.{if_done}
-use Rattle.tile.specs.Laws.IfDone.{if_done_lem, if_refused}
-use Rattle.tile.specs.Laws.Asking.{first_refused, first_passed}
-use Rattle.tile.specs.Laws.FirstNo.{first_no-zero}
+use Rattle.tile.proofs.Laws.IfDone.{if_done_lem, if_refused}
+use Rattle.tile.proofs.Laws.Asking.{first_refused, first_passed}
+use Rattle.tile.proofs.Laws.FirstNo.{first_no-zero}
 use Rattle.sheet.specs.declared.Site.{Site}
 use Rattle.sheet.specs.Sites.{reach, SiteYes, site_questions}
-use Rattle.sheet.specs.Laws.SiteEdges.{site_zero, site_answers, reach-le}
+use Rattle.sheet.proofs.Laws.SiteEdges.{site_zero, site_answers, reach-le}
 use Rattle.corrections.specs.Corrections.{Tile, tile_of, already_in, edges_after}
 use Rattle.corrections.specs.Amending.{Amendable, left_by, amend_questions, amend_refusal, amended}
 use Rattle.curves.specs.MarkedQuestions.{edges_marked, marked_questions}
 use Rattle.curves.specs.CurveOutcomes.{marked_result}
-use Rattle.curves.specs.CurveTheorem.{AcceptedMarked, marked_accepted}
+use Rattle.curves.specs.CurveTheorem.{AcceptedMarked}
+use Rattle.curves.proofs.Theorems.CurveTheorem.{marked_accepted}
 use Rattle.curves.specs.CurvedCorrections.{CurveCall, curve_call_of, edges_in, curve_call_questions, correct_curve_refusal, corrected_curve}
-use Rattle.curves.specs.Laws.CurvedKept.{one_contour}
+use Rattle.curves.proofs.Laws.CurvedKept.{one_contour}
 use Rattle.curves.proofs.correct_curves.Statement.{statement}
 use Rattle.curves.proofs.correct_curves.Tie as tie
 

@@ -5,7 +5,7 @@ use native.Mathlib.Omega.{arith}
 use lib.ListN.{length}
 use borrow.Author.Rules.{rules}
 use Rattle.chords.specs.Sides.{numbers_of}
-use Rattle.curves.specs.Laws.CountingDown.{Down, down_start, down_next, down-over, down_end}
+use Rattle.curves.proofs.Laws.CountingDown.{Down, down_start, down_next, down-over, down_end}
 use Rattle.curves.proofs.is_size.Statement.{statement}
 use Rattle.curves.proofs.is_size.Tie as tie
 

@@ -4,7 +4,7 @@ use Prim.Native.Nat.{ℕ, ◌≤◌, ◌-◌}
 use native.Mathlib.Omega.{arith}
 use lib.ListN.{length}
 use borrow.Author.Rules.{rules}
-use Rattle.curves.specs.Laws.CountingDown.{Down, down_start, down_next, down-over, down_end}
+use Rattle.curves.proofs.Laws.CountingDown.{Down, down_start, down_next, down-over, down_end}
 use Rattle.curves.proofs.is_sum.Statement.{statement}
 use Rattle.curves.proofs.is_sum.Tie as tie
 

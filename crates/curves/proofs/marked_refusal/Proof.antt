@@ -13,26 +13,28 @@ use mir.Facts.{to_z_pos}
 use borrow.Author.Rules.{rules}
 use borrow.Author.Tests.{le-leb, lt-leb}
 use Rattle.integers.specs.Units.{steps_per_pixel, greatest_sheet_coordinate, most_edges}
-use Rattle.integers.specs.Order.{≤ℤ_trans, pos-≤ℤ}
-use Rattle.integers.specs.Machine.{known}
-use Rattle.integers.specs.Conjunction.{second_decides}
-use Rattle.integers.specs.ListSum.{All, all_map}
-use Rattle.integers.specs.Tests.{every, between, eqb_means}
+use Rattle.integers.proofs.Theorems.Order.{≤ℤ_trans, pos-≤ℤ}
+use Rattle.integers.proofs.Theorems.Machine.{known}
+use Rattle.integers.proofs.Theorems.Conjunction.{second_decides}
+use Rattle.integers.specs.ListSum.{All}
+use Rattle.integers.proofs.Theorems.ListSum.{all_map}
+use Rattle.integers.specs.Tests.{every, between}
+use Rattle.integers.proofs.Theorems.Tests.{eqb_means}
 use Rattle.edge.specs.declared.Edge.{Edge}
 use Rattle.curve.specs.Curve.{OnSheet}
 use Rattle.accuracy.specs.Outline.{edge_count}
 use Rattle.placement.specs.Placed.{placed}
 use Rattle.chords.specs.Sides.{numbers, marked_contours}
 use Rattle.chords.specs.Inner.{capped_chords}
-use Rattle.chords.specs.Laws.SidesWithin.{numbers_even}
+use Rattle.chords.proofs.Laws.SidesWithin.{numbers_even}
 use Rattle.tile.specs.declared.Built.{Built}
 use Rattle.tile.specs.Questions.{Question, first_no, question6}
-use Rattle.tile.specs.Refusals.{question4_means, question6_means}
-use Rattle.tile.specs.Laws.Asking.{After, none_asked, no_at, yes_at, refused, passed}
-use Rattle.tile.specs.Laws.IfDone.{if_done_lem, if_refused}
+use Rattle.tile.proofs.Theorems.Refusals.{question4_means, question6_means}
+use Rattle.tile.proofs.Laws.Asking.{After, none_asked, no_at, yes_at, refused, passed}
+use Rattle.tile.proofs.Laws.IfDone.{if_done_lem, if_refused}
 use Rattle.curves.specs.MarkedQuestions.{is_mark, question16, edges_marked, marked_questions}
 use Rattle.curves.specs.CurveOutcomes.{refusal, marked_result}
-use Rattle.curves.specs.Laws.CappedChords.{capped_few, capped_many, capped_bound}
+use Rattle.curves.proofs.Laws.CappedChords.{capped_few, capped_many, capped_bound}
 use Rattle.curves.proofs.marked_refusal.Statement.{statement}
 use Rattle.curves.proofs.marked_refusal.Tie as tie
 

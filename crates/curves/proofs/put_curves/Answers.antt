@@ -4,7 +4,7 @@ use mathlib.Core.List.{◌∷◌}
 use Rattle.corrections.specs.Corrections.{tile_of}
 use Rattle.curves.specs.CurvedCorrections.{putting_curve, contour_in}
 use Rattle.curves.specs.CurvedHolding.{HoldsCurves}
-use Rattle.curves.specs.Laws.CurvedKept.{contour_near, holds_put_curve}
+use Rattle.curves.proofs.Laws.CurvedKept.{contour_near, holds_put_curve}
 use Rattle.curves.proofs.put_curves.Goals as goal
 
 pub returns-clause-near_contour : goal.returns-clause-near_contour

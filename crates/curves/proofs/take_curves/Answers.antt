@@ -3,7 +3,7 @@ use mathlib.Core.Path.{refl, subst⁻¹}
 use Rattle.corrections.specs.Corrections.{tile_of}
 use Rattle.curves.specs.CurvedCorrections.{taking_curve}
 use Rattle.curves.specs.CurvedHolding.{HoldsCurves}
-use Rattle.curves.specs.Laws.CurvedKept.{contour_near, holds_taken_curve}
+use Rattle.curves.proofs.Laws.CurvedKept.{contour_near, holds_taken_curve}
 use Rattle.curves.proofs.take_curves.Goals as goal
 
 pub returns-clause-near_contour : goal.returns-clause-near_contour

@@ -1,9 +1,9 @@
 -- z, or −z where that is negative.
 use Rattle.std.proofs.Common.{[], ◌∷◌, pos, ◌≤ℤ◌, ◌<ℤ◌, sym, ◌∙◌}
 use Rattle.std.proofs.Math.Facts.{sfits_lit}
-use Rattle.integers.specs.Ring.{read, ring}
-use Rattle.integers.specs.Machine.{known, tests}
-use Rattle.integers.specs.Held.{held_number, held-neg, held_back}
+use Rattle.integers.proofs.Theorems.Ring.{read, ring}
+use Rattle.integers.proofs.Theorems.Machine.{known, tests}
+use Rattle.integers.proofs.Theorems.Held.{held_number, held-neg, held_back}
 use Rattle.edge.proofs.Signs.{abs-negative, abs_nonnegative}
 use Rattle.edge.proofs.abs.Goals as goal
 

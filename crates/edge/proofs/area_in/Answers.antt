@@ -1,6 +1,6 @@
 -- Nothing where no step is in the rows; the cuts otherwise.
 use Rattle.std.proofs.Common.{◌≤ℤ◌, sym, subst, rules, SFits, w64}
-use Rattle.integers.specs.Machine.{tests}
+use Rattle.integers.proofs.Theorems.Machine.{tests}
 use Rattle.edge.specs.declared.Span.{Span}
 use Rattle.edge.proofs.Sizes.{width≥0}
 use Rattle.edge.proofs.AreaForm.{no_area}

@@ -2,7 +2,7 @@
 use Rattle.std.proofs.Common.{◌≡◌, pos, ◌*ℤ◌, ◌∙◌, ap₂, rules, SFits, w64}
 use Rattle.std.proofs.Math.Path.{subst⁻¹}
 use Rattle.integers.specs.Units.{width_times_extent_limit}
-use Rattle.integers.specs.Bits.{result_is}
+use Rattle.integers.proofs.Theorems.Bits.{result_is}
 use Rattle.edge.specs.Code.{SamplesWithin, beyond_at, held_at, piece_sum}
 use Rattle.edge.proofs.AxisNumbers.{width_is, past_is, beyond_within, hold_within}
 use Rattle.edge.proofs.area_numerator.Goals as goal

@@ -1,8 +1,8 @@
 -- Half a half on, or back.
 use Rattle.std.proofs.Common.{pos, ◌≤ℤ◌, ◌<ℤ◌, sym, ◌∙◌}
 use Rattle.std.proofs.Math.Facts.{sfits_lit}
-use Rattle.integers.specs.Machine.{tests}
-use Rattle.integers.specs.Held.{held_number, held-add, held_sub, held_back}
+use Rattle.integers.proofs.Theorems.Machine.{tests}
+use Rattle.integers.proofs.Theorems.Held.{held_number, held-add, held_sub, held_back}
 use Rattle.edge.proofs.Signs.{before_first, before_second}
 use Rattle.edge.proofs.before_half.Goals as goal
 

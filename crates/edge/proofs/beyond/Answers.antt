@@ -1,8 +1,9 @@
 -- How far past a line the walk is after t steps, `scale` times over: both products and their sum stay in range.
 use Rattle.std.proofs.Common.{◌+◌, ◌*◌, ◌+ℤ◌, ◌-ℤ◌, ◌*ℤ◌}
-use Rattle.integers.specs.Within.{within_le, within_self}
+use Rattle.integers.proofs.Theorems.Within.{within_le, within_self}
 use Rattle.integers.specs.Bits.{back}
-use Rattle.integers.specs.Held.{Held, held_number, held-add, held-mul, held_fits, held_back}
+use Rattle.integers.specs.Held.{Held}
+use Rattle.integers.proofs.Theorems.Held.{held_number, held-add, held-mul, held_fits, held_back}
 use Rattle.edge.specs.Room.{extent_limit, crossing_limit}
 use Rattle.edge.proofs.Sizes.{difference}
 use Rattle.edge.proofs.beyond.Goals as goal

@@ -1,12 +1,13 @@
 -- How far past a side a direction is, at the four cuts.
 use Rattle.std.proofs.Common.{◌≡◌, ℤ, pos, ◌+ℤ◌, ◌-ℤ◌, ◌*ℤ◌, ◌∙◌, ap₂}
 use Rattle.integers.specs.Within.{Within}
-use Rattle.integers.specs.Bits.{back, back_is, result_is}
+use Rattle.integers.specs.Bits.{back}
+use Rattle.integers.proofs.Theorems.Bits.{back_is, result_is}
 use Rattle.edge.specs.declared.Axis.{Axis}
 use Rattle.edge.specs.Walk.{beyond}
 use Rattle.edge.specs.Room.{crossing_limit}
 use Rattle.edge.specs.Code.{AxisRoom}
-use Rattle.edge.specs.Lemmas.Records.{samples_eq}
+use Rattle.edge.proofs.Lemmas.Records.{samples_eq}
 use Rattle.edge.proofs.AxisNumbers.{scale_held, sign-held}
 use Rattle.edge.proofs.beyond_at.Goals as goal
 

@@ -5,7 +5,7 @@ use Rattle.std.specs.Int.Signed.{lt_z}
 use Rattle.edge.specs.declared.Span.{Span}
 use Rattle.edge.specs.Inside.{Inside}
 use Rattle.edge.specs.WalkOf.{Decides}
-use Rattle.edge.specs.Laws.WalkInside.{span_decides}
+use Rattle.edge.proofs.Laws.WalkInside.{span_decides}
 use Rattle.edge.proofs.comes_inside.Goals as goal
 
 pub returns : goal.returns

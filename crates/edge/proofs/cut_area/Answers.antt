@@ -2,12 +2,12 @@
 use Rattle.std.proofs.Common.{◌≡◌, pos, nat_abs, ◌<ℤ◌, ◌∙◌, ap, ap₂, subst, rules}
 use Rattle.std.proofs.Math.Path.{subst⁻¹}
 use Rattle.integers.specs.Rounding.{round_half_away}
-use Rattle.integers.specs.Bits.{back_is, result_is}
+use Rattle.integers.proofs.Theorems.Bits.{back_is, result_is}
 use Rattle.edge.specs.declared.Span.{Span}
 use Rattle.edge.specs.Cuts.{rows, to_middle, side_cuts}
 use Rattle.edge.specs.Room.{crossing_limit}
 use Rattle.edge.specs.Code.{SamplesWithin, SamplesClosed, area_at}
-use Rattle.edge.specs.Lemmas.Records.{cuts_at_eq}
+use Rattle.edge.proofs.Lemmas.Records.{cuts_at_eq}
 use Rattle.edge.proofs.Sizes.{width≥0, width_within}
 use Rattle.edge.proofs.WalkRoom.{x_room, y_room, rooms, steps_within, divisor_pos, divisor_within}
 use Rattle.edge.proofs.CutForm.{ordered_within}

@@ -1,12 +1,12 @@
 -- The details of a walk that comes strictly inside a cell, by its cuts.
 use Rattle.std.proofs.Common.{◌≡◌, pos, ◌<ℤ◌, ◌∙◌, ap, ap₂, subst, to_z-of_z}
 use Rattle.std.proofs.Math.Path.{subst⁻¹}
-use Rattle.integers.specs.Bits.{back_is, fits_within, result_is}
+use Rattle.integers.proofs.Theorems.Bits.{back_is, fits_within, result_is}
 use Rattle.edge.specs.declared.Span.{Span}
 use Rattle.edge.specs.Cuts.{span, to_middle, cuts}
 use Rattle.edge.specs.Room.{crossing_limit}
 use Rattle.edge.specs.Code.{SamplesWithin, SamplesClosed, numerators_at, rounded_by}
-use Rattle.edge.specs.Lemmas.Records.{cuts_at_eq}
+use Rattle.edge.proofs.Lemmas.Records.{cuts_at_eq}
 use Rattle.edge.proofs.WalkRoom.{x_room, y_room, back-room, half_room, steps_within, divisor_pos, divisor_within}
 use Rattle.edge.proofs.CutForm.{InCell, ordered_within, cuts_in_cell, cut-details}
 use Rattle.edge.proofs.cut_details.Goals as goal

@@ -1,11 +1,11 @@
 -- The cuts where some step is inside, and else nothing.
 use Rattle.std.proofs.Common.{[], ◌∷◌, ◌≤ℤ◌, ◌<ℤ◌, sym, rules, SFits, w64}
 use Rattle.std.proofs.Math.Path.{subst⁻¹}
-use Rattle.integers.specs.Linear.{le, lt, ◌&◌, linear, lin⊥}
-use Rattle.integers.specs.Machine.{tests}
+use Rattle.integers.proofs.Theorems.Linear.{le, lt, ◌&◌, linear, lin⊥}
+use Rattle.integers.proofs.Theorems.Machine.{tests}
 use Rattle.edge.specs.declared.Span.{Span}
-use Rattle.edge.specs.Laws.Zero.{details-zero}
-use Rattle.edge.specs.Laws.WalkInside.{span_of_inside}
+use Rattle.edge.proofs.Laws.Zero.{details-zero}
+use Rattle.edge.proofs.Laws.WalkInside.{span_of_inside}
 use Rattle.edge.proofs.Sizes.{width≥0}
 use Rattle.edge.proofs.details_over.Goals as goal
 

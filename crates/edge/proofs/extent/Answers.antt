@@ -1,9 +1,9 @@
 -- The larger of |d| and 1.
 use Rattle.std.proofs.Common.{[], ◌∷◌, pos, ◌≤ℤ◌, ◌<ℤ◌, sym, ◌∙◌}
 use Rattle.std.proofs.Math.Facts.{sfits_lit}
-use Rattle.integers.specs.Ring.{read, ring}
-use Rattle.integers.specs.Machine.{known, tests}
-use Rattle.integers.specs.Held.{held_number, held-neg, held_back}
+use Rattle.integers.proofs.Theorems.Ring.{read, ring}
+use Rattle.integers.proofs.Theorems.Machine.{known, tests}
+use Rattle.integers.proofs.Theorems.Held.{held_number, held-neg, held_back}
 use Rattle.edge.proofs.Signs.{extent-positive, extent-negative, extent-zero}
 use Rattle.edge.proofs.extent.Goals as goal
 

@@ -1,7 +1,7 @@
 -- The second where the number is negative, and else the first.
 use Rattle.std.proofs.Common.{pos, ◌≤ℤ◌, ◌<ℤ◌, sym}
 use Rattle.std.proofs.Math.Facts.{sfits_lit}
-use Rattle.integers.specs.Machine.{tests}
+use Rattle.integers.proofs.Theorems.Machine.{tests}
 use Rattle.edge.proofs.Signs.{half_first, half_second}
 use Rattle.edge.proofs.half_with.Goals as goal
 

@@ -1,6 +1,6 @@
 -- A number held between two bounds.
 use Rattle.std.proofs.Common.{◌∙◌, ap₂, to_z-of_z}
-use Rattle.integers.specs.Bits.{result_is}
+use Rattle.integers.proofs.Theorems.Bits.{result_is}
 use Rattle.integers.specs.MinMax.{min, max}
 use Rattle.integers.specs.Clamp.{clamp}
 use Rattle.edge.proofs.hold.Goals as goal

@@ -2,8 +2,8 @@
 use Rattle.std.proofs.Common.{[], ◌∷◌, ℤ, ◌≤ℤ◌, ap₂}
 use Rattle.std.specs.Int.Signed.{le_z}
 use Rattle.std.proofs.Math.Path.{subst⁻¹}
-use Rattle.integers.specs.Order.{le_z-true, le_z-false}
-use Rattle.integers.specs.Linear.{le, lt, ◌&◌, linear, lin⊥}
+use Rattle.integers.proofs.Theorems.Order.{le_z-true, le_z-false}
+use Rattle.integers.proofs.Theorems.Linear.{le, lt, ◌&◌, linear, lin⊥}
 use Rattle.integers.specs.Magnitude.{abs}
 use Rattle.edge.specs.WalkOf.{Decides}
 use Rattle.edge.proofs.Sizes.{magnitude}

@@ -1,7 +1,7 @@
 -- The smaller of two numbers.
 use Rattle.std.proofs.Common.{sym, ◌≤ℤ◌}
-use Rattle.integers.specs.Machine.{known, tests}
-use Rattle.integers.specs.MinMax.{min_eqˡ, min_eqʳ}
+use Rattle.integers.proofs.Theorems.Machine.{known, tests}
+use Rattle.integers.proofs.Theorems.MinMax.{min_eqˡ, min_eqʳ}
 use Rattle.edge.proofs.low.Goals as goal
 
 pub returns-then-a-b : goal.returns-then-a-b

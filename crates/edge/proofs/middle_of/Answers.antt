@@ -1,5 +1,5 @@
 -- The step at which a direction crosses the middle between its sides.
-use Rattle.integers.specs.Held.{held-mul, held_fits, held_back}
+use Rattle.integers.proofs.Theorems.Held.{held-mul, held_fits, held_back}
 use Rattle.edge.proofs.AxisNumbers.{sign-held, side_held, sum-held}
 use Rattle.edge.proofs.middle_of.Goals as goal
 

@@ -2,13 +2,15 @@
 use Rattle.std.proofs.Common.{◌≡◌, ◌*◌, ℤ, pos, ◌-ℤ◌, ◌*ℤ◌, ◌∙◌, ap, ap₂, rules, SFits, w64}
 use Rattle.std.proofs.Math.Path.{subst⁻¹}
 use Rattle.integers.specs.Units.{width_times_extent_limit}
-use Rattle.integers.specs.Machine.{known}
-use Rattle.integers.specs.Bits.{back, result_is}
-use Rattle.integers.specs.Held.{Held, held_back, held_within, held_fits, held-neg}
+use Rattle.integers.proofs.Theorems.Machine.{known}
+use Rattle.integers.specs.Bits.{back}
+use Rattle.integers.proofs.Theorems.Bits.{result_is}
+use Rattle.integers.specs.Held.{Held}
+use Rattle.integers.proofs.Theorems.Held.{held_back, held_within, held_fits, held-neg}
 use Rattle.edge.specs.declared.Axis.{Axis}
 use Rattle.edge.specs.declared.Samples.{Samples}
 use Rattle.edge.specs.Code.{AxisRoom, SamplesWithin, SamplesClosed, beyond_at, near_at, piece_sum}
-use Rattle.edge.specs.Lemmas.Records.{details-eq}
+use Rattle.edge.proofs.Lemmas.Records.{details-eq}
 use Rattle.edge.proofs.AxisNumbers.{width_held, width_is, past_is, beyond_within, near_within}
 use Rattle.edge.proofs.PieceBounds.{piece_limit, piece_sum_within}
 use Rattle.edge.proofs.numerators.Goals as goal

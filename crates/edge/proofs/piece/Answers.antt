@@ -2,7 +2,8 @@
 use Rattle.std.proofs.Common.{◌+◌, ◌*◌, ◌+ℤ◌, ◌-ℤ◌, ◌*ℤ◌}
 use Rattle.integers.specs.Units.{width_times_extent_limit}
 use Rattle.integers.specs.Bits.{back}
-use Rattle.integers.specs.Held.{Held, held_number, held-add, held_sub, held-mul, held_fits, held_back}
+use Rattle.integers.specs.Held.{Held}
+use Rattle.integers.proofs.Theorems.Held.{held_number, held-add, held_sub, held-mul, held_fits, held_back}
 use Rattle.edge.proofs.piece.Goals as goal
 
 product : (c : goal.Start) → Held ((width_times_extent_limit + width_times_extent_limit) * (width_times_extent_limit + width_times_extent_limit))

@@ -3,8 +3,10 @@ use Rattle.std.proofs.Common.{◌≡◌, ◌<◌, ◌+◌, ◌^◌, ℤ, pos, �
 use Rattle.std.specs.Int.Signed.{mag}
 use Rattle.integers.specs.Units.{width_times_extent_limit}
 use Rattle.integers.specs.Within.{Within}
-use Rattle.integers.specs.Bits.{back, back_is, result_is}
-use Rattle.integers.specs.Held.{Held, held-add, held_fits, held_back}
+use Rattle.integers.specs.Bits.{back}
+use Rattle.integers.proofs.Theorems.Bits.{back_is, result_is}
+use Rattle.integers.specs.Held.{Held}
+use Rattle.integers.proofs.Theorems.Held.{held-add, held_fits, held_back}
 use Rattle.edge.specs.Code.{piece_sum}
 use Rattle.edge.proofs.PieceBounds.{piece_limit, piece_within}
 use Rattle.edge.proofs.pieces.Goals as goal

@@ -4,12 +4,13 @@ use Rattle.std.specs.Int.Signed.{mag}
 use Rattle.std.proofs.Math.Facts.{sfits_lit}
 use Rattle.integers.specs.Magnitude.{abs}
 use Rattle.integers.specs.Within.{Within}
-use Rattle.integers.specs.Machine.{tests}
+use Rattle.integers.proofs.Theorems.Machine.{tests}
 use Rattle.integers.specs.Bits.{back}
-use Rattle.integers.specs.Held.{Held, held_number, held_sub, held-neg, held-mul, held_fits, held_back}
+use Rattle.integers.specs.Held.{Held}
+use Rattle.integers.proofs.Theorems.Held.{held_number, held_sub, held-neg, held-mul, held_fits, held_back}
 use Rattle.edge.specs.Room.{extent_limit}
 use Rattle.edge.specs.Code.{turned}
-use Rattle.edge.specs.Lemmas.Records.{details-eq}
+use Rattle.edge.proofs.Lemmas.Records.{details-eq}
 use Rattle.edge.proofs.Signs.{half_first, half_second}
 use Rattle.edge.proofs.Sizes.{magnitude}
 use Rattle.edge.proofs.quarter_details.Goals as goal

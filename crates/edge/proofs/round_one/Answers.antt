@@ -1,7 +1,7 @@
 -- A numerator, rounded. Over 1 it is itself.
 use Rattle.std.proofs.Common.{◌≡◌, pos, nat_abs, sym, ◌∙◌, ap, to_z, to_z-of_z, w64}
 use Rattle.integers.specs.Rounding.{round_half_away}
-use Rattle.integers.specs.RoundHalfAway.{round_half_away_one}
+use Rattle.integers.proofs.Theorems.RoundHalfAway.{round_half_away_one}
 use Rattle.edge.proofs.round_one.Goals as goal
 
 pub returns-then-n-eq1 : goal.returns-then-n-eq1

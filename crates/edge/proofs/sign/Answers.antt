@@ -1,7 +1,7 @@
 -- The sign of a number.
 use Rattle.std.proofs.Common.{pos, ◌≤ℤ◌, ◌<ℤ◌, sym}
 use Rattle.std.proofs.Math.Facts.{sfits_lit}
-use Rattle.integers.specs.Machine.{tests}
+use Rattle.integers.proofs.Theorems.Machine.{tests}
 use Rattle.edge.proofs.Signs.{sign-positive, sign-negative, sign_zero}
 use Rattle.edge.proofs.sign.Goals as goal
 

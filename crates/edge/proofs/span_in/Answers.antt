@@ -1,7 +1,7 @@
 -- The steps strictly inside a cell: those between the sides both ways.
 use Rattle.std.proofs.Common.{◌∙◌, rules}
-use Rattle.integers.specs.Bits.{back_is}
-use Rattle.edge.specs.Lemmas.Records.{strip_of_eq, meet-eq}
+use Rattle.integers.proofs.Theorems.Bits.{back_is}
+use Rattle.edge.proofs.Lemmas.Records.{strip_of_eq, meet-eq}
 use Rattle.edge.proofs.Sizes.{width_within}
 use Rattle.edge.proofs.WalkRoom.{rooms, steps_within}
 use Rattle.edge.proofs.span_in.Goals as goal

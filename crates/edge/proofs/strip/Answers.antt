@@ -1,9 +1,9 @@
 -- The steps of one direction between two lines, by the sign of its walk.
 use Rattle.std.proofs.Common.{refl, pos, ◌≤ℤ◌, ◌<ℤ◌, sym, ◌∙◌, inl, inr, to_z-of_z}
 use Rattle.std.proofs.Math.Facts.{sfits_lit}
-use Rattle.integers.specs.Machine.{tests}
-use Rattle.integers.specs.Held.{held_number, held-neg, held_back}
-use Rattle.edge.specs.Lemmas.Records.{span-eq}
+use Rattle.integers.proofs.Theorems.Machine.{tests}
+use Rattle.integers.proofs.Theorems.Held.{held_number, held-neg, held_back}
+use Rattle.edge.proofs.Lemmas.Records.{span-eq}
 use Rattle.edge.proofs.Signs.{strip_forward, strip_backward, strip-between, strip_outside}
 use Rattle.edge.proofs.strip.Goals as goal
 

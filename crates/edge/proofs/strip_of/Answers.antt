@@ -1,8 +1,8 @@
 -- The steps of a direction between its two sides.
 use Rattle.std.proofs.Common.{◌≡◌, [], ℤ, ◌∙◌, ap₂, to_z-of_z}
-use Rattle.integers.specs.Linear.{none!, linear, lin≤}
-use Rattle.integers.specs.Within.{within_le}
-use Rattle.integers.specs.Held.{held_fits, held_back, held_within}
+use Rattle.integers.proofs.Theorems.Linear.{none!, linear, lin≤}
+use Rattle.integers.proofs.Theorems.Within.{within_le}
+use Rattle.integers.proofs.Theorems.Held.{held_fits, held_back, held_within}
 use Rattle.edge.specs.Cuts.{strip}
 use Rattle.edge.proofs.AxisNumbers.{sign-held, side_held, sum-held}
 use Rattle.edge.proofs.strip_of.Goals as goal

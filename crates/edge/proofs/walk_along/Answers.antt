@@ -1,12 +1,15 @@
 -- A walk in unit steps where the edge is octilinear, and else in the steps of the definitions.
 use Rattle.std.proofs.Common.{◌≡◌, refl, ℕ, ℤ, ◌⊎◌, ◌*◌, max, pos, nat_abs, ◌*ℤ◌, ◌≤ℤ◌, ◌<ℤ◌, [], ◌∷◌, sym, ◌∙◌, ap, ap₂, inl, inr}
 use Rattle.std.proofs.Math.Nat.{max-eq_left, max-eq_right}
-use Rattle.integers.specs.Ring.{read, comb, ◌⊕◌, ◌⊗◌}
-use Rattle.integers.specs.Order.{≤ℤ_or_<ℤ, ≤ℤ_of_<ℤ, ≤_of_pos}
-use Rattle.integers.specs.MinMax.{max as maxℤ, max_eqˡ, max_eqʳ}
-use Rattle.integers.specs.Machine.{known}
-use Rattle.integers.specs.Bits.{back, back_is, result_is}
-use Rattle.integers.specs.Held.{Held, held-mul, held_fits, held_back}
+use Rattle.integers.proofs.Theorems.Ring.{read, comb, ◌⊕◌, ◌⊗◌}
+use Rattle.integers.proofs.Theorems.Order.{≤ℤ_or_<ℤ, ≤ℤ_of_<ℤ, ≤_of_pos}
+use Rattle.integers.specs.MinMax.{max as maxℤ}
+use Rattle.integers.proofs.Theorems.MinMax.{max_eqˡ, max_eqʳ}
+use Rattle.integers.proofs.Theorems.Machine.{known}
+use Rattle.integers.specs.Bits.{back}
+use Rattle.integers.proofs.Theorems.Bits.{back_is, result_is}
+use Rattle.integers.specs.Held.{Held}
+use Rattle.integers.proofs.Theorems.Held.{held-mul, held_fits, held_back}
 use Rattle.edge.specs.declared.Edge.{Edge}
 use Rattle.edge.specs.declared.Axis.{Axis}
 use Rattle.edge.specs.declared.Walk.{Walk}
@@ -14,8 +17,8 @@ use Rattle.edge.specs.Walk.{extent, sign, dx, dy, ax, ay, steps}
 use Rattle.edge.specs.Room.{extent_limit}
 use Rattle.edge.specs.Octilinear.{Octilinear, level, upright, diagonal, unit_steps}
 use Rattle.edge.specs.WalkOf.{fine, unit}
-use Rattle.edge.specs.Lemmas.Ends.{sign-extent, sign_zero}
-use Rattle.edge.specs.Lemmas.Records.{axis_eq}
+use Rattle.edge.proofs.Lemmas.Ends.{sign-extent, sign_zero}
+use Rattle.edge.proofs.Lemmas.Records.{axis_eq}
 use Rattle.edge.proofs.Sizes.{difference, extent_within}
 use Rattle.edge.proofs.walk_along.Goals as goal
 use Rattle.edge.proofs.walk_along.Goals.{Start}

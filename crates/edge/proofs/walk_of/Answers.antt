@@ -1,7 +1,7 @@
 -- The differences' extents and signs are what the walk is made of.
 use Rattle.std.proofs.Common.{pos, ◌∙◌, ap}
-use Rattle.integers.specs.Bits.{result_is}
-use Rattle.integers.specs.Held.{held_back}
+use Rattle.integers.proofs.Theorems.Bits.{result_is}
+use Rattle.integers.proofs.Theorems.Held.{held_back}
 use Rattle.edge.specs.Walk.{extent, sign}
 use Rattle.edge.proofs.Sizes.{difference}
 use Rattle.edge.proofs.walk_of.Goals as goal

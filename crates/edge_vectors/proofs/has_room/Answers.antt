@@ -1,12 +1,13 @@
 -- The product is tested. Its factors are bounded, so that it fits.
 use Rattle.std.proofs.Common.{refl, [], ◌∷◌, ℤ, pos, ◌+ℤ◌, ◌-ℤ◌, ◌*ℤ◌, ◌≤ℤ◌, to_z, of_z, w64}
 use mir.Val.{SFits}
-use Rattle.integers.specs.Ring.{ring}
-use Rattle.integers.specs.Linear.{le, ◌&◌, linear, lin≤}
-use Rattle.integers.specs.Within.{Within, bounds, within_is, within_sub}
-use Rattle.integers.specs.Machine.{machine, linfits, box}
+use Rattle.integers.proofs.Theorems.Ring.{ring}
+use Rattle.integers.proofs.Theorems.Linear.{le, ◌&◌, linear, lin≤}
+use Rattle.integers.specs.Within.{Within}
+use Rattle.integers.proofs.Theorems.Within.{bounds, within_is, within_sub}
+use Rattle.integers.proofs.Theorems.Machine.{machine, linfits, box}
 use Rattle.edge.specs.Room.{coordinate_limit}
-use Rattle.edge.specs.Laws.Cells.{extent_times}
+use Rattle.edge.proofs.Laws.Cells.{extent_times}
 use Rattle.edge_vectors.specs.Ready.{HalfWidth}
 use Rattle.edge_vectors.proofs.Answers.{shown}
 use Rattle.edge_vectors.proofs.has_room.Goals as goal

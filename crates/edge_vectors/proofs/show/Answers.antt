@@ -1,8 +1,8 @@
 -- Where the numbers are ready, there is room for the walk's edge, which is the edge that was given, in the cell.
 use Rattle.std.proofs.Common.{◌≡◌, [], ◌∷◌, refl, sym, subst₂, ℤ, ◌+ℤ◌, to_z, of_z, w64, to_z-of_z}
 use mir.Val.{SFits}
-use Rattle.integers.specs.Linear.{le, ◌&◌}
-use Rattle.integers.specs.Machine.{machine, linfits}
+use Rattle.integers.proofs.Theorems.Linear.{le, ◌&◌}
+use Rattle.integers.proofs.Theorems.Machine.{machine, linfits}
 use Rattle.edge.specs.Room.{Room}
 use Rattle.edge_vectors.specs.Ready.{HalfWidth}
 use Rattle.edge_vectors.proofs.show.Goals as goal

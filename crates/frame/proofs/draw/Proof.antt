@@ -15,12 +15,12 @@ use Rattle.frame_text.specs.Frames.{frame}
 use Rattle.frame_text.specs.Reading.{is_frame, frame_of}
 use Rattle.frame_text.specs.OutputLines.{refusal_text}
 use Rattle.frame_text.specs.Inner.{is_body, body_coordinates, body_counts, size_of, Readable}
-use Rattle.frame_text.specs.Laws.Over.{over-front, over-room}
-use Rattle.frame_text.specs.Laws.Reading.{framed, frame_is}
-use Rattle.frame_text.specs.Laws.WrittenRead.{read_writable}
-use Rattle.frame_text.specs.Laws.Parts.{part_is}
+use Rattle.frame_text.proofs.Laws.Over.{over-front, over-room}
+use Rattle.frame_text.proofs.Laws.Reading.{framed, frame_is}
+use Rattle.frame_text.proofs.Laws.WrittenRead.{read_writable}
+use Rattle.frame_text.proofs.Laws.Parts.{part_is}
 use Rattle.frame.specs.Output.{frame_refusal, frame_table, drawn_text, output_text, answer_of}
-use Rattle.frame.specs.Theorem.{answered}
+use Rattle.frame.proofs.Theorems.Theorem.{answered}
 use Rattle.frame.specs.Inner.{outline_refusal, frame_output, frame_table_after}
 use Rattle.frame.proofs.draw.Statement.{statement}
 use Rattle.frame.proofs.draw.Tie as tie

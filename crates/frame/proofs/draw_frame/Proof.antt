@@ -4,13 +4,13 @@ use mathlib.Core.Bool.{true, false}
 use mathlib.Core.List.{List}
 use lib.IntN.{ℤ}
 use borrow.Author.Rules.{rules}
-use Rattle.tile.specs.Laws.IfDone.{if_refused}
+use Rattle.tile.proofs.Laws.IfDone.{if_refused}
 use Rattle.frame_text.specs.Over.{over}
 use Rattle.frame_text.specs.Frames.{Frame, frame}
 use Rattle.frame_text.specs.OutputLines.{refusal_text}
 use Rattle.frame.specs.Output.{frame_table, drawn_text, answer_of}
 use Rattle.frame.specs.Inner.{outline_refusal, is_deeper}
-use Rattle.frame.specs.Laws.FrameNumber.{outline_output, outline_table_lem, level_refusal_is, level_refused}
+use Rattle.frame.proofs.Laws.FrameNumber.{outline_output, outline_table_lem, level_refusal_is, level_refused}
 use Rattle.frame.proofs.draw_frame.Statement.{statement}
 use Rattle.frame.proofs.draw_frame.Tie as tie
 

@@ -8,12 +8,12 @@ use lib.ListN.{length, take, drop, length-append}
 use lib.Seq.{take_at, length-take-le}
 use borrow.Author.Rules.{rules}
 use Rattle.tile.specs.Outcomes.{build_result, build_table}
-use Rattle.tile.specs.Laws.IfDone.{if_done_lem, if_refused}
+use Rattle.tile.proofs.Laws.IfDone.{if_done_lem, if_refused}
 use Rattle.frame_text.specs.Frames.{Frame, frame}
 use Rattle.frame_text.specs.OutputLines.{refusal_text}
 use Rattle.frame.specs.Inner.{table_text, used_entries, used_table, built_table, build_number, edges_built}
 use Rattle.frame.specs.Output.{answer_of}
-use Rattle.frame.specs.Laws.Output.{used_entries-le, build_number_small, built_table_length}
+use Rattle.frame.proofs.Laws.Output.{used_entries-le, build_number_small, built_table_length}
 use Rattle.frame.proofs.draw_outline.Statement.{statement}
 use Rattle.frame.proofs.draw_outline.Tie as tie
 

@@ -7,13 +7,13 @@ use lib.IntN.{ℤ, pos}
 use lib.ListN.{length, get_or, take, drop, length-append}
 use lib.Seq.{take_at}
 use borrow.Author.Rules.{rules}
-use Rattle.integers.specs.Bits.{field_is}
+use Rattle.integers.proofs.Theorems.Bits.{field_is}
 use Rattle.tile.specs.Outcomes.{draw_refusal, greys_picture}
-use Rattle.tile.specs.Laws.IfDone.{if_done_lem, if_refused}
+use Rattle.tile.proofs.Laws.IfDone.{if_done_lem, if_refused}
 use Rattle.frame_text.specs.OutputLines.{refusal_text, rows_text, summary_text}
 use Rattle.frame.specs.Output.{zeros, answer_of}
 use Rattle.frame.specs.Inner.{picture_size, draw_number, greys_drawn, picture_text}
-use Rattle.frame.specs.Laws.Output.{picture-size-le, zeros-length, take-zeros, draw_number_small, Drawn, drawn}
+use Rattle.frame.proofs.Laws.Output.{picture-size-le, zeros-length, take-zeros, draw_number_small, Drawn, drawn}
 use Rattle.frame.proofs.draw_table.Statement.{statement}
 use Rattle.frame.proofs.draw_table.Tie as tie
 

@@ -13,12 +13,12 @@ use borrow.Author.Rules.{rules}
 use borrow.Rule.Slice.PartMut.{put_mid}
 use Rattle.frame_text.specs.Over.{over}
 use Rattle.frame_text.specs.OutputLines.{summary_text, rows_text}
-use Rattle.frame_text.specs.Laws.Over.{written, written_length}
-use Rattle.frame_text.specs.Laws.Printing.{summary_length_lem, rows_text_length}
-use Rattle.frame_text.specs.Laws.Parts.{part_over, part_length}
+use Rattle.frame_text.proofs.Laws.Over.{written, written_length}
+use Rattle.frame_text.proofs.Laws.Printing.{summary_length_lem, rows_text_length}
+use Rattle.frame_text.proofs.Laws.Parts.{part_over, part_length}
 use Rattle.frame.specs.declared.Answer.{Answer}
 use Rattle.frame.specs.Output.{zeros}
-use Rattle.frame.specs.Laws.Output.{zeros-length}
+use Rattle.frame.proofs.Laws.Output.{zeros-length}
 use Rattle.frame.proofs.drawn.Statement.{statement}
 use Rattle.frame.proofs.drawn.Tie as tie
 

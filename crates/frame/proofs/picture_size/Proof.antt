@@ -8,7 +8,7 @@ use lib.Pow.{pow_mono}
 use borrow.Author.Rules.{rules}
 use borrow.Author.Tests.{le-leb, lt-leb}
 use Rattle.integers.specs.Units.{greatest_side, greatest_depth}
-use Rattle.haar.specs.Laws.Cells.{level_square}
+use Rattle.haar.proofs.Laws.Cells.{level_square}
 use Rattle.frame.proofs.picture_size.Statement.{statement}
 use Rattle.frame.proofs.picture_size.Tie as tie
 

@@ -1,6 +1,6 @@
 -- The root's figure, or that of a child from its parent's.
 use Rattle.std.proofs.Common.{◌≡◌, ◌≢◌, sym, ◌∙◌, ap, subst, ℕ, suc, ◌-◌, arith}
-use Rattle.integers.specs.Bits.{result_is}
+use Rattle.integers.proofs.Theorems.Bits.{result_is}
 use Rattle.haar.specs.Plane.{figure_in}
 use Rattle.haar.specs.Drawable.{DrawableCell}
 use Rattle.haar.proofs.Above.{root_is, cell_above, cell_refinable}

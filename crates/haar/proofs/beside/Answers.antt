@@ -2,11 +2,14 @@
 use Rattle.std.proofs.Common.{◌≡◌, refl, ◌∙◌, ap, ap₂, [], ◌∷◌, ℕ, ◌+◌, ◌%◌, ◌^◌, ◌<◌, ℤ, ◌+ℤ◌, ◌*ℤ◌, arith}
 use Rattle.std.proofs.Math.Nat.{mod-lt}
 use Rattle.std.specs.Int.Signed.{mag}
-use Rattle.integers.specs.Ring.{read, ring}
-use Rattle.integers.specs.Within.{within_is, within_sign}
-use Rattle.integers.specs.HalfSign.{half_sign, half_sign_cases}
-use Rattle.integers.specs.Bits.{back, result_is}
-use Rattle.integers.specs.Held.{Held, held_number, held-add, held_sub, held-mul, held_fits, held_back, held_within}
+use Rattle.integers.proofs.Theorems.Ring.{read, ring}
+use Rattle.integers.proofs.Theorems.Within.{within_is, within_sign}
+use Rattle.integers.specs.HalfSign.{half_sign}
+use Rattle.integers.proofs.Theorems.HalfSign.{half_sign_cases}
+use Rattle.integers.specs.Bits.{back}
+use Rattle.integers.proofs.Theorems.Bits.{result_is}
+use Rattle.integers.specs.Held.{Held}
+use Rattle.integers.proofs.Theorems.Held.{held_number, held-add, held_sub, held-mul, held_fits, held_back, held_within}
 use Rattle.haar.specs.Pairs.{parent_limit, PairBounds}
 use Rattle.haar.proofs.beside.Goals as goal
 

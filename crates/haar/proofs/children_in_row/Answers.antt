@@ -2,10 +2,10 @@
 use Rattle.std.proofs.Common.{refl, ◌∙◌, ◌/◌, ◌%◌, arith}
 use Rattle.std.proofs.Math.Nat.{mod-lt}
 use Rattle.std.proofs.Math.Path.{subst⁻¹}
-use Rattle.integers.specs.Within.{within_sign}
-use Rattle.integers.specs.HalfSign.{half_sign_cases}
-use Rattle.integers.specs.Bits.{back_is}
-use Rattle.integers.specs.Held.{held_number, held_within}
+use Rattle.integers.proofs.Theorems.Within.{within_sign}
+use Rattle.integers.proofs.Theorems.HalfSign.{half_sign_cases}
+use Rattle.integers.proofs.Theorems.Bits.{back_is}
+use Rattle.integers.proofs.Theorems.Held.{held_number, held_within}
 use Rattle.haar.specs.Pairs.{IsPair}
 use Rattle.haar.proofs.CellDetails.{cell_details_lem, detail_is, parent_within, scale_within, pair_is}
 use Rattle.haar.proofs.children_in_row.Goals as goal

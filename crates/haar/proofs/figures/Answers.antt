@@ -2,7 +2,7 @@
 use Rattle.std.proofs.Common.{◌∙◌, pos}
 use Rattle.haar.specs.Table.{stored}
 use Rattle.haar.specs.Plane.{dimensions}
-use Rattle.haar.specs.Laws.Pictures.{picture_of_entries}
+use Rattle.haar.proofs.Laws.Pictures.{picture_of_entries}
 use Rattle.haar.proofs.figures.Goals as goal
 
 pub returns : goal.returns

@@ -1,7 +1,7 @@
 -- The place of a cell's first detail, by the number of cells across.
 use Rattle.std.proofs.Common.{◌*◌, ap, arith}
 use Rattle.haar.specs.Plane.{h_detail}
-use Rattle.haar.specs.Laws.Layout.{index_plane}
+use Rattle.haar.proofs.Laws.Layout.{index_plane}
 use Rattle.haar.proofs.LevelNumbers.{level_numbers}
 use Rattle.haar.proofs.first_detail_across.Goals as goal
 

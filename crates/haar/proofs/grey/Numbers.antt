@@ -11,11 +11,12 @@ use native.Mathlib.Nat.{two-mul, mul-div-mul_left, div-lt_iff_lt-mul}
 use lib.Pow.{pow-add, pow_mono}
 use lib.IntN.{pos, nat_abs, ◌*ℤ◌}
 use Rattle.integers.specs.Units.{greatest_depth, full_grey}
-use Rattle.integers.specs.Order.{nonneg, pos-≤ℤ}
-use Rattle.integers.specs.Clamp.{clamp, clamp-inside}
+use Rattle.integers.proofs.Theorems.Order.{nonneg, pos-≤ℤ}
+use Rattle.integers.specs.Clamp.{clamp}
+use Rattle.integers.proofs.Theorems.Clamp.{clamp-inside}
 use Rattle.integers.specs.Rounding.{floor, round_half_up}
 use Rattle.haar.specs.Greys.{full, ink_grey}
-use Rattle.haar.specs.Laws.InkGreys.{full-pos, ink_clamp}
+use Rattle.haar.proofs.Laws.InkGreys.{full-pos, ink_clamp}
 
 -- a pixel has 2^17 units: `full_shift` fails where it has not
 abbrev pixel_bits : ℕ

@@ -1,6 +1,6 @@
 -- Each cell's children ask for its figure, which stands in the row of parents.
 use Rattle.std.proofs.Common.{◌∙◌, ap₂, ◌*◌, arith}
-use Rattle.haar.specs.Laws.Cells.{level_square}
+use Rattle.haar.proofs.Laws.Cells.{level_square}
 use Rattle.haar.proofs.TwoRows.{row-places, next_cell, rows_step}
 use Rattle.haar.proofs.grey_rows.Goals as goal
 

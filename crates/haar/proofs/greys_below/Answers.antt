@@ -3,7 +3,7 @@ use Rattle.std.proofs.Common.{◌∙◌, suc, ◌^◌, arith}
 use Rattle.haar.specs.Greys.{grey_of}
 use Rattle.haar.specs.Table.{stored}
 use Rattle.haar.specs.Plane.{dimensions}
-use Rattle.haar.specs.Laws.Pictures.{picture_of_entries}
+use Rattle.haar.proofs.Laws.Pictures.{picture_of_entries}
 use Rattle.haar.proofs.NextLevel.{level_step, level_entry}
 use Rattle.haar.proofs.greys_below.Goals as goal
 

@@ -1,8 +1,8 @@
 -- Three times the places, and one, are the cells of the next level.
 use Rattle.std.proofs.Common.{suc, ◌*◌, ◌∙◌, ap₂, arith}
 use Rattle.std.proofs.Math.Nat.{pow-succ'}
-use Rattle.haar.specs.Laws.Cells.{level_square}
-use Rattle.haar.specs.Laws.Pyramid.{places-closed}
+use Rattle.haar.proofs.Laws.Cells.{level_square}
+use Rattle.haar.proofs.Laws.Pyramid.{places-closed}
 use Rattle.haar.proofs.places_to.Goals as goal
 
 pub returns : goal.returns

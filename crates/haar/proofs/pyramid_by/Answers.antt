@@ -6,7 +6,7 @@ use Rattle.haar.specs.Cells.{children}
 use Rattle.haar.specs.Plane.{dimensions}
 use Rattle.haar.specs.Levels.{HasFigures}
 use Rattle.haar.specs.Pyramid.{places}
-use Rattle.haar.specs.Laws.Pyramid.{places_next, places-mono}
+use Rattle.haar.proofs.Laws.Pyramid.{places_next, places-mono}
 use Rattle.haar.proofs.Above.{shallower}
 use Rattle.haar.proofs.Stacking.{stacked_root, stacked_step}
 use Rattle.haar.proofs.pyramid_by.Goals as goal

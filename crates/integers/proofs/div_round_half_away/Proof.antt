@@ -7,9 +7,10 @@ use lib.Signed.{quot_z, rem_z, ◌≤ℤ◌, ◌<ℤ◌, lt_z_yes}
 use mir.Syntax.{w64}
 use mir.Val.{SFits, to_z, of_z}
 use mir.Facts.{to_z-of_z}
-use Rattle.integers.specs.Linear.{◌&◌, le, lt, eq, lin≤, lin<}
-use Rattle.integers.specs.Machine.{machine, linfits, range, known, bits_pos, tests}
-use Rattle.integers.specs.Division.{Truncated, truncated, quot_fits, rem_fits}
+use Rattle.integers.proofs.Theorems.Linear.{◌&◌, le, lt, eq, lin≤, lin<}
+use Rattle.integers.proofs.Theorems.Machine.{machine, linfits, range, known, bits_pos, tests}
+use Rattle.integers.specs.Division.{Truncated}
+use Rattle.integers.proofs.Theorems.Division.{truncated, quot_fits, rem_fits}
 use Rattle.integers.proofs.Correction.{up_at_least, up_at_most, down_at_least, down_at_most, rounded_up, rounded-down, kept}
 use Rattle.integers.proofs.div_round_half_away.Statement.{statement}
 use Rattle.integers.proofs.div_round_half_away.Tie as tie

@@ -2,7 +2,7 @@
 use mathlib.Core.Path.{sym, ◌∙◌, ap₂}
 use lib.Signed.{le_z}
 use mir.Facts.{to_z-of_z}
-use Rattle.integers.specs.Conjunction.{second_decides, first_decides}
+use Rattle.integers.proofs.Theorems.Conjunction.{second_decides, first_decides}
 use Rattle.integers.proofs.is_within.Statement.{statement}
 use Rattle.integers.proofs.is_within.Tie as tie
 

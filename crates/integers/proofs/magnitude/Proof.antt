@@ -9,10 +9,10 @@ use mir.Syntax.{w64}
 use mir.Val.{SFits, to_z, of_z}
 use mir.Facts.{sfits_lit, Fits-nat_abs}
 use borrow.Author.Rules.{rules}
-use Rattle.integers.specs.Ring.{ring}
-use Rattle.integers.specs.Order.{≤ℤ_of_≡, ≤_of_pos, nonneg}
-use Rattle.integers.specs.Linear.{◌&◌, le, lt, eq, linear, lin≤, lin≡, lin⊥}
-use Rattle.integers.specs.Machine.{machine, linfits, range, tests}
+use Rattle.integers.proofs.Theorems.Ring.{ring}
+use Rattle.integers.proofs.Theorems.Order.{≤ℤ_of_≡, ≤_of_pos, nonneg}
+use Rattle.integers.proofs.Theorems.Linear.{◌&◌, le, lt, eq, linear, lin≤, lin≡, lin⊥}
+use Rattle.integers.proofs.Theorems.Machine.{machine, linfits, range, tests}
 use Rattle.integers.proofs.magnitude.Statement.{statement}
 use Rattle.integers.proofs.magnitude.Tie as tie
 use Rattle.integers.proofs.magnitude.Reads as reads

@@ -10,10 +10,12 @@ use mir.Syntax.{w64}
 use mir.Val.{to_z}
 use mir.Facts.{to_z-of_z}
 use borrow.Author.Rules.{rules}
-use Rattle.integers.specs.Bits.{back, field_is}
+use Rattle.integers.specs.Bits.{back}
+use Rattle.integers.proofs.Theorems.Bits.{field_is}
 use Rattle.integers.specs.Tests.{every, between}
-use Rattle.integers.specs.Every.{every_fails, every_next, every_end}
-use Rattle.integers.specs.Search.{looked_at, looked_fails, looked_next, looked_end}
+use Rattle.integers.proofs.Theorems.Every.{every_fails, every_next, every_end}
+use Rattle.integers.specs.Search.{looked_at}
+use Rattle.integers.proofs.Theorems.Search.{looked_fails, looked_next, looked_end}
 use Rattle.integers.proofs.search_within.Statement.{statement}
 use Rattle.integers.proofs.search_within.Tie as tie
 

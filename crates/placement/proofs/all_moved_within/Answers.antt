@@ -2,9 +2,9 @@
 use Rattle.std.proofs.Common.{◌≡◌, ℕ, ◌+◌, ◌*◌, ◌<◌, ◌≤◌, Bool, false, true, ◌&&◌, List, length, drop, get_or, ℤ, pos, sym, refl, ap, ◌∙◌, ap₂, FitsSigned, w64, arith, to_z-of_z}
 use Rattle.integers.specs.Bits.{back}
 use Rattle.integers.specs.Tests.{every, between}
-use Rattle.integers.specs.Every.{every-pair, every_end}
+use Rattle.integers.proofs.Theorems.Every.{every-pair, every_end}
 use Rattle.placement.specs.Placed.{placed}
-use Rattle.placement.specs.Laws.PlacedPoints.{placed-length}
+use Rattle.placement.proofs.Laws.PlacedPoints.{placed-length}
 use Rattle.placement.proofs.all_moved_within.Goals as goal
 
 -- the bounds as they are held, and as they were given

@@ -2,7 +2,7 @@
 use Rattle.std.proofs.Common.{sym, ap, ◌∙◌, ap₂, to_z-of_z}
 use Rattle.integers.specs.Tests.{every, between}
 use Rattle.placement.specs.Placed.{placed}
-use Rattle.placement.specs.Laws.PlacedPoints.{placed_none}
+use Rattle.placement.proofs.Laws.PlacedPoints.{placed_none}
 use Rattle.placement.specs.declared.Placement.{Placement}
 use Rattle.placement.proofs.all_placed_within.Goals as goal
 

@@ -1,13 +1,14 @@
 -- The turned point is a multiple of 1/65,536 within the greatest placed coordinate, and its parts are `parts_at`.
 use Rattle.std.proofs.Common.{◌≡◌, true, FitsSigned, w64, ℤ, ap, ◌∙◌, subst, ap₂, to_z-of_z}
-use Rattle.integers.specs.Bits.{back, result_is}
+use Rattle.integers.specs.Bits.{back}
+use Rattle.integers.proofs.Theorems.Bits.{result_is}
 use Rattle.integers.specs.Units.{parts_per_step, placed_limit}
 use Rattle.std.specs.Prelude.{Float}
 use Rattle.placement.specs.Parts.{Value, is_multiple, parts_of, nearest}
 use Rattle.placement.specs.Placed.{parts_at}
 use Rattle.placement.specs.Ready.{Ready}
-use Rattle.placement.specs.Laws.PartsOf.{value_multiple}
-use Rattle.placement.specs.Laws.Turning.{parts_at-bound}
+use Rattle.placement.proofs.Laws.PartsOf.{value_multiple}
+use Rattle.placement.proofs.Laws.Turning.{parts_at-bound}
 use Rattle.placement.proofs.coordinate.Goals as goal
 
 -- v is worked out of the coordinates as they are held

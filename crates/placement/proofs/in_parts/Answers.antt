@@ -1,7 +1,7 @@
 -- One product.
 use Rattle.std.proofs.Common.{refl, rules}
 use Rattle.std.specs.Float.Ieee.{of_bits}
-use Rattle.placement.specs.Laws.InParts.{scaled}
+use Rattle.placement.proofs.Laws.InParts.{scaled}
 use Rattle.placement.proofs.in_parts.Goals as goal
 
 pub returns : goal.returns

@@ -7,13 +7,14 @@ use Rattle.std.specs.Float.{binary64}
 use Rattle.std.specs.Float.Ieee.{in_float, of_int, to_signed, eq, le, neg}
 use Rattle.std.specs.Float.Ieee.Back.{round_whole}
 use Rattle.std.specs.Float.Ieee.Exact.{HasValue}
-use Rattle.integers.specs.Bits.{back, result_is}
+use Rattle.integers.specs.Bits.{back}
+use Rattle.integers.proofs.Theorems.Bits.{result_is}
 use Rattle.integers.specs.Units.{offset_limit}
 use Rattle.placement.specs.Parts.{parts_of, Inside, InParts}
-use Rattle.placement.specs.Laws.PartsOf.{not-inside}
-use Rattle.placement.specs.Laws.Comparisons.{inside_wider, inside_of, inside_low, inside_high}
-use Rattle.placement.specs.Laws.WholeFloats.{whole_fits}
-use Rattle.placement.specs.Laws.TestedFloats.{Tested, tested}
+use Rattle.placement.proofs.Laws.PartsOf.{not-inside}
+use Rattle.placement.proofs.Laws.Comparisons.{inside_wider, inside_of, inside_low, inside_high}
+use Rattle.placement.proofs.Laws.WholeFloats.{whole_fits}
+use Rattle.placement.proofs.Laws.TestedFloats.{Tested, tested}
 use Rattle.placement.proofs.is_multiple.Goals as goal
 
 module _ (limit : ℕ) (x : Float) (h : limit ≤ offset_limit) where

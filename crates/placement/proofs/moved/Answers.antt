@@ -6,7 +6,7 @@ use Rattle.integers.specs.Bits.{back}
 use Rattle.placement.specs.Parts.{nearest, one, nought}
 use Rattle.placement.specs.Placed.{parts_at, across_of, down_of, placeable}
 use Rattle.placement.specs.Ready.{Ready}
-use Rattle.placement.specs.Laws.Turns.{shift_ready, scale_ready, ready_at, nearest_at, shift_x, shift_y, scale_x, scale_y}
+use Rattle.placement.proofs.Laws.Turns.{shift_ready, scale_ready, ready_at, nearest_at, shift_x, shift_y, scale_x, scale_y}
 use Rattle.placement.specs.declared.Placement.{Placement}
 use Rattle.placement.proofs.moved.Goals as goal
 

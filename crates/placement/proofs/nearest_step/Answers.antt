@@ -2,17 +2,19 @@
 use Rattle.std.proofs.Common.{◌≡◌, ◌*◌, ◌≤◌, true, [], ◌∷◌, pos, ◌∙◌, le_trans, lit≤}
 use Rattle.std.proofs.Math.Path.{subst⁻¹}
 use Rattle.std.specs.Prelude.{Float, unsigned_abs}
-use Rattle.integers.specs.Ring.{read, comb}
-use Rattle.integers.specs.Machine.{machine, linfits}
-use Rattle.integers.specs.Within.{Within, bounds, within_of_nat_abs}
-use Rattle.integers.specs.Bits.{back, result_is}
+use Rattle.integers.proofs.Theorems.Ring.{read, comb}
+use Rattle.integers.proofs.Theorems.Machine.{machine, linfits}
+use Rattle.integers.specs.Within.{Within}
+use Rattle.integers.proofs.Theorems.Within.{bounds, within_of_nat_abs}
+use Rattle.integers.specs.Bits.{back}
+use Rattle.integers.proofs.Theorems.Bits.{result_is}
 use Rattle.integers.specs.Units.{parts_per_step, placed_limit}
 use Rattle.placement.specs.Parts.{Value, parts_of, is_multiple, InParts, cast_limit}
-use Rattle.placement.specs.Laws.PartsOf.{multiple_value, multiple_inside, multiple_bound}
-use Rattle.placement.specs.Laws.Comparisons.{inside-above, inside-below}
-use Rattle.placement.specs.Laws.WholeFloats.{whole_inside, cut_whole}
-use Rattle.placement.specs.Laws.InParts.{whole_parts}
-use Rattle.placement.specs.Laws.NearestStep.{shifted}
+use Rattle.placement.proofs.Laws.PartsOf.{multiple_value, multiple_inside, multiple_bound}
+use Rattle.placement.proofs.Laws.Comparisons.{inside-above, inside-below}
+use Rattle.placement.proofs.Laws.WholeFloats.{whole_inside, cut_whole}
+use Rattle.placement.proofs.Laws.InParts.{whole_parts}
+use Rattle.placement.proofs.Laws.NearestStep.{shifted}
 use Rattle.placement.proofs.nearest_step.Goals as goal
 
 module _ (v : Float) (h : is_multiple placed_limit v ≡ true) where

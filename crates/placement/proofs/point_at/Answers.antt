@@ -2,7 +2,7 @@
 use Rattle.std.proofs.Common.{◌≡◌, ℕ, ◌+◌, ◌*◌, ◌<◌, List, length, get_or, ℤ, pos, sym, ap, ◌∙◌, ap₂, rules}
 use Rattle.integers.specs.Bits.{back}
 use Rattle.placement.specs.Placed.{across_of, down_of, placed}
-use Rattle.placement.specs.Laws.PlacedPoints.{placed_x, placed_y}
+use Rattle.placement.proofs.Laws.PlacedPoints.{placed_x, placed_y}
 use Rattle.placement.specs.declared.Placement.{Placement}
 use Rattle.placement.proofs.point_at.Goals as goal
 

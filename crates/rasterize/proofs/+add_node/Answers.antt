@@ -1,14 +1,14 @@
 -- A cell's own details, and then its quarters, in a loop: one level less at each call.
 use Rattle.std.proofs.Common.{◌≡◌, ◌∙◌, ap, List, ℕ, suc, ◌-◌, ◌≤◌, ℤ, ◌≤ℤ◌, SFits, w64, arith, rules}
 use Rattle.std.proofs.Math.Path.{subst⁻¹}
-use Rattle.integers.specs.Machine.{tests}
+use Rattle.integers.proofs.Theorems.Machine.{tests}
 use Rattle.edge.specs.declared.Edge.{Edge}
 use Rattle.rasterize.specs.declared.Node.{Node}
 use Rattle.rasterize.specs.Added.{added}
 use Rattle.rasterize.specs.Contribution.{contribution}
 use Rattle.rasterize.specs.Ready.{SmallDetails}
-use Rattle.rasterize.specs.Laws.OnSheet.{on_sheet_room, on_sheet_details}
-use Rattle.rasterize.specs.Laws.ReadyCells.{ready-suc, ready-splits, ready_own, ready_first, ready-room}
+use Rattle.rasterize.proofs.Laws.OnSheet.{on_sheet_room, on_sheet_details}
+use Rattle.rasterize.proofs.Laws.ReadyCells.{ready-suc, ready-splits, ready_own, ready_first, ready-room}
 use Rattle.rasterize.proofs.QuarterLoop.{as_numbered_lem, own_added, own_end, not-inside_of_span, quarters_start, quarters_asks, quarters-step, quarters-skip, quarters_end}
 use Rattle.rasterize.proofs.+add_node.Goals as goal
 use Rattle.rasterize.proofs.+add_node.Goals.{then-inside, else-inside}

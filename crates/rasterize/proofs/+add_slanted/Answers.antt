@@ -1,19 +1,19 @@
 -- A cell's own details, and then its quarters on the way, in a loop: one level less at each call.
 use Rattle.std.proofs.Common.{◌≡◌, ◌∙◌, subst, List, ℕ, suc, ◌+◌, ◌-◌, ◌<◌, ◌≤◌, ℤ, ◌≤ℤ◌, ◌<ℤ◌, SFits, w64, to_z-of_z, arith, rules}
 use Rattle.std.proofs.Math.Path.{subst⁻¹}
-use Rattle.integers.specs.Machine.{tests}
+use Rattle.integers.proofs.Theorems.Machine.{tests}
 use Rattle.integers.specs.Bits.{back}
 use Rattle.slanted.specs.declared.Slope.{Slope}
 use Rattle.slanted.specs.declared.Piece.{Piece}
 use Rattle.slanted.specs.Parts.{IsPart}
-use Rattle.slanted.specs.Laws.PieceSound.{sound_ranged}
+use Rattle.slanted.proofs.Laws.PieceSound.{sound_ranged}
 use Rattle.rasterize.specs.declared.Spot.{Spot}
 use Rattle.rasterize.specs.Nodes.{quarters}
 use Rattle.rasterize.specs.Ready.{SmallDetails}
 use Rattle.rasterize.specs.Slanted.{slope, piece, quarter_on_way, quarter_spot, SlantedReady, SlantedAdds}
-use Rattle.rasterize.specs.Laws.OnSheet.{on_sheet_details}
-use Rattle.rasterize.specs.Laws.ReadyCells.{ready-splits, ready_own, ready_first}
-use Rattle.rasterize.specs.Laws.SlantedCells.{slants_sound, slants_details, slants_even}
+use Rattle.rasterize.proofs.Laws.OnSheet.{on_sheet_details}
+use Rattle.rasterize.proofs.Laws.ReadyCells.{ready-splits, ready_own, ready_first}
+use Rattle.rasterize.proofs.Laws.SlantedCells.{slants_sound, slants_details, slants_even}
 use Rattle.rasterize.proofs.SlantedBits.{slope-eq, piece_eq}
 use Rattle.rasterize.proofs.SlantedLoop.{SlantedLoop, SlantedOwn, slanted_own, slanted_start, slanted_step, slanted_skip, slanted_asks, slanted_end, slanted_last}
 use Rattle.rasterize.proofs.+add_slanted.Goals as goal

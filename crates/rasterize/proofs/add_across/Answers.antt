@@ -4,8 +4,8 @@ use Rattle.std.proofs.Math.Path.{subst⁻¹}
 use Rattle.edge.specs.declared.Edge.{Edge}
 use Rattle.rasterize.specs.declared.Node.{Node}
 use Rattle.rasterize.specs.Ready.{Ready}
-use Rattle.rasterize.specs.Laws.OnSheet.{on_sheet_room}
-use Rattle.rasterize.specs.Laws.ReadyCells.{ready-suc}
+use Rattle.rasterize.proofs.Laws.OnSheet.{on_sheet_room}
+use Rattle.rasterize.proofs.Laws.ReadyCells.{ready-suc}
 use Rattle.rasterize.proofs.add_across.Goals as goal
 
 -- the walk's edge, w, is the edge

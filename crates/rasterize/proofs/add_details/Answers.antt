@@ -2,15 +2,16 @@
 use Rattle.std.proofs.Common.{◌≡◌, refl, sym, ◌∙◌, ap, ap₂, subst, List, [], ◌∷◌, ℕ, suc, ◌+◌, ◌-◌, ◌<◌, ◌≤◌, length, get_or, set, ℤ, pos, ◌+ℤ◌, length-set, get_or-set_same, get_or-set_other, arith}
 use Rattle.std.proofs.Math.Path.{subst⁻¹}
 use Rattle.std.proofs.Math.Decide.{dec_lt}
-use Rattle.integers.specs.Ring.{read, ring}
+use Rattle.integers.proofs.Theorems.Ring.{read, ring}
 use Rattle.integers.specs.Units.{detail_limit}
 use Rattle.integers.specs.Within.{Within}
-use Rattle.integers.specs.Bits.{back, back_is}
+use Rattle.integers.specs.Bits.{back}
+use Rattle.integers.proofs.Theorems.Bits.{back_is}
 use Rattle.edge.specs.declared.Details.{Details}
 use Rattle.accuracy.specs.ExactDetails.{numbered}
 use Rattle.rasterize.specs.Added.{added}
 use Rattle.rasterize.specs.Contribution.{own_part}
-use Rattle.rasterize.specs.Laws.Adding.{added_unique}
+use Rattle.rasterize.proofs.Laws.Adding.{added_unique}
 use Rattle.rasterize.proofs.add_details.Goals as goal
 
 module _ (t : List ℤ) (w : Details) (first : ℕ) where

@@ -1,13 +1,13 @@
 -- The edge, or the way back along it.
 use Rattle.std.proofs.Common.{◌≡◌, sym, ◌∙◌, ap, ap₂, [], ◌∷◌, pos, ◌*ℤ◌, w64, of_z, to_z-of_z}
 use Rattle.std.proofs.Math.Path.{subst⁻¹}
-use Rattle.integers.specs.Ring.{read, ring}
-use Rattle.integers.specs.Within.{within_zero}
-use Rattle.integers.specs.Bits.{fits_within, same_bits}
+use Rattle.integers.proofs.Theorems.Ring.{read, ring}
+use Rattle.integers.proofs.Theorems.Within.{within_zero}
+use Rattle.integers.proofs.Theorems.Bits.{fits_within, same_bits}
 use Rattle.rasterize.specs.Added.{added, entry_of}
 use Rattle.rasterize.specs.Views.{seen_by, part_table, Seen, seen_table, turned_by}
-use Rattle.rasterize.specs.Laws.Adding.{added_same, added_none}
-use Rattle.rasterize.specs.Laws.TurnedEdges.{seen_in_view, turned_seen, turned_entry}
+use Rattle.rasterize.proofs.Laws.Adding.{added_same, added_none}
+use Rattle.rasterize.proofs.Laws.TurnedEdges.{seen_in_view, turned_seen, turned_entry}
 use Rattle.rasterize.proofs.add_edge.Goals as goal
 
 pub add_whole-requires : goal.add_whole-requires

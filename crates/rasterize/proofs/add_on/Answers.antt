@@ -6,8 +6,8 @@ use Rattle.edge.specs.Nested.{OnCell}
 use Rattle.edge.specs.Room.{Room}
 use Rattle.rasterize.specs.declared.Node.{Node}
 use Rattle.rasterize.specs.Ready.{Ready}
-use Rattle.rasterize.specs.Laws.OnSheet.{on_sheet_room}
-use Rattle.rasterize.specs.Laws.ReadyCells.{ready-suc}
+use Rattle.rasterize.proofs.Laws.OnSheet.{on_sheet_room}
+use Rattle.rasterize.proofs.Laws.ReadyCells.{ready-suc}
 use Rattle.rasterize.proofs.add_on.Goals as goal
 
 -- the walk's edge, w, is the edge

@@ -2,10 +2,11 @@
 use Rattle.std.proofs.Common.{◌≡◌, refl, sym, ◌∙◌, ap, subst, List, ℕ, suc, ◌<◌, ◌^◌, ℤ, pos, ◌+ℤ◌, ◌≤ℤ◌, ◌<ℤ◌, SFits, w64, rules}
 use Rattle.std.proofs.Math.Path.{subst⁻¹, subst₂}
 use Rattle.std.specs.Int.Signed.{mag}
-use Rattle.integers.specs.Machine.{tests}
-use Rattle.integers.specs.Order.{≤ℤ_of_<ℤ}
-use Rattle.integers.specs.Within.{within_le, within_self}
-use Rattle.integers.specs.Bits.{back, back_is, result_is}
+use Rattle.integers.proofs.Theorems.Machine.{tests}
+use Rattle.integers.proofs.Theorems.Order.{≤ℤ_of_<ℤ}
+use Rattle.integers.proofs.Theorems.Within.{within_le, within_self}
+use Rattle.integers.specs.Bits.{back}
+use Rattle.integers.proofs.Theorems.Bits.{back_is, result_is}
 use Rattle.edge.specs.declared.Cell.{Cell as Square}
 use Rattle.edge.specs.declared.Edge.{Edge}
 use Rattle.edge.specs.declared.Span.{Span}
@@ -20,12 +21,12 @@ use Rattle.rasterize.specs.declared.Node.{Node}
 use Rattle.rasterize.specs.Contribution.{contribution}
 use Rattle.rasterize.specs.Ready.{Ready}
 use Rattle.rasterize.specs.Slanted.{slope, piece, Slants}
-use Rattle.rasterize.specs.Laws.Adding.{added_none}
-use Rattle.rasterize.specs.Laws.Contributions.{contribution_outside}
-use Rattle.rasterize.specs.Laws.Nodes.{half_width_is}
-use Rattle.rasterize.specs.Laws.OnSheet.{on_sheet_room, on_sheet_width}
-use Rattle.rasterize.specs.Laws.ReadyCells.{ready-suc, ready-splits}
-use Rattle.rasterize.specs.Laws.SlantedCells.{slants_sound}
+use Rattle.rasterize.proofs.Laws.Adding.{added_none}
+use Rattle.rasterize.proofs.Laws.Contributions.{contribution_outside}
+use Rattle.rasterize.proofs.Laws.Nodes.{half_width_is}
+use Rattle.rasterize.proofs.Laws.OnSheet.{on_sheet_room, on_sheet_width}
+use Rattle.rasterize.proofs.Laws.ReadyCells.{ready-suc, ready-splits}
+use Rattle.rasterize.proofs.Laws.SlantedCells.{slants_sound}
 use Rattle.rasterize.proofs.QuarterLoop.{not-inside_of_span}
 use Rattle.rasterize.proofs.SlantedBits.{slope-eq, piece_eq}
 use Rattle.rasterize.proofs.add_piece.Goals as goal

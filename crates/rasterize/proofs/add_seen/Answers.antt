@@ -2,24 +2,25 @@
 use Rattle.std.proofs.Common.{◌≡◌, refl, sym, ◌∙◌, ap, subst, List, ℕ, ◌-◌, ◌≤◌, ℤ, pos, arith}
 use Rattle.std.proofs.Math.Path.{subst⁻¹}
 use Rattle.integers.specs.Units.{greatest_depth}
-use Rattle.integers.specs.Order.{pos-≤ℤ, nonneg}
-use Rattle.integers.specs.Within.{within_le, within_self}
-use Rattle.integers.specs.Bits.{back, back_is}
+use Rattle.integers.proofs.Theorems.Order.{pos-≤ℤ, nonneg}
+use Rattle.integers.proofs.Theorems.Within.{within_le, within_self}
+use Rattle.integers.specs.Bits.{back}
+use Rattle.integers.proofs.Theorems.Bits.{back_is}
 use Rattle.edge.specs.declared.Edge.{Edge}
 use Rattle.edge.specs.Room.{coordinate_limit}
 use Rattle.edge.specs.Nested.{OnCell}
 use Rattle.accuracy.specs.Tile.{cell_width}
-use Rattle.accuracy.specs.Laws.EntryBounds.{tile_width_le}
-use Rattle.accuracy.specs.Laws.Squares.{square-tile}
+use Rattle.accuracy.proofs.Laws.EntryBounds.{tile_width_le}
+use Rattle.accuracy.proofs.Laws.Squares.{square-tile}
 use Rattle.rasterize.specs.declared.Node.{Node}
 use Rattle.rasterize.specs.declared.Stage.{Stage}
 use Rattle.rasterize.specs.Nodes.{node_at}
 use Rattle.rasterize.specs.Contribution.{contribution}
 use Rattle.rasterize.specs.Ready.{square_of, Ready}
 use Rattle.rasterize.specs.Stages.{stage_at, stage_node, StageOf}
-use Rattle.rasterize.specs.Laws.Adding.{added_none}
-use Rattle.rasterize.specs.Laws.Stages.{stage_node_lem}
-use Rattle.rasterize.specs.Laws.Contributions.{contribution-zero}
+use Rattle.rasterize.proofs.Laws.Adding.{added_none}
+use Rattle.rasterize.proofs.Laws.Stages.{stage_node_lem}
+use Rattle.rasterize.proofs.Laws.Contributions.{contribution-zero}
 use Rattle.rasterize.proofs.add_seen.Goals as goal
 
 -- the tile's width, read back from its bits

@@ -1,9 +1,9 @@
 -- The recursion, where there are steps inside.
 use Rattle.std.proofs.Common.{sym, ◌≤ℤ◌, SFits, w64, rules}
-use Rattle.integers.specs.Machine.{tests}
+use Rattle.integers.proofs.Theorems.Machine.{tests}
 use Rattle.rasterize.specs.Contribution.{contribution}
-use Rattle.rasterize.specs.Laws.Adding.{added_none}
-use Rattle.rasterize.specs.Laws.Contributions.{contribution_outside}
+use Rattle.rasterize.proofs.Laws.Adding.{added_none}
+use Rattle.rasterize.proofs.Laws.Contributions.{contribution_outside}
 use Rattle.rasterize.proofs.QuarterLoop.{not-inside_of_span}
 use Rattle.rasterize.proofs.add_walk.Goals as goal
 

@@ -1,18 +1,19 @@
 -- The root's part, and the details.
 use Rattle.std.proofs.Common.{◌≡◌, ◌∙◌, ap, ◌≤◌, List, get_or, set, ℤ, pos, ◌+ℤ◌, arith}
 use Rattle.std.proofs.Math.Path.{subst⁻¹}
-use Rattle.integers.specs.Order.{pos-≤ℤ}
+use Rattle.integers.proofs.Theorems.Order.{pos-≤ℤ}
 use Rattle.integers.specs.Units.{detail_limit}
-use Rattle.integers.specs.Within.{Within, within_le}
-use Rattle.integers.specs.Bits.{result_is}
+use Rattle.integers.specs.Within.{Within}
+use Rattle.integers.proofs.Theorems.Within.{within_le}
+use Rattle.integers.proofs.Theorems.Bits.{result_is}
 use Rattle.edge.specs.Room.{Room}
-use Rattle.accuracy.specs.Laws.Squares.{square-tile}
+use Rattle.accuracy.proofs.Laws.Squares.{square-tile}
 use Rattle.rasterize.specs.declared.Node.{Node}
 use Rattle.rasterize.specs.Added.{added}
 use Rattle.rasterize.specs.Nodes.{node_at}
 use Rattle.rasterize.specs.Contribution.{contribution}
 use Rattle.rasterize.specs.Ready.{sum_limit}
-use Rattle.rasterize.specs.Laws.EdgeAdded.{measured_in, room_in, root_part_small, root-inside, tile-ready, edge-added}
+use Rattle.rasterize.proofs.Laws.EdgeAdded.{measured_in, room_in, root_part_small, root-inside, tile-ready, edge-added}
 use Rattle.rasterize.proofs.add_whole.Goals as goal
 
 -- the table once the root has its part

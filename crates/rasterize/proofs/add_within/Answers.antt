@@ -2,10 +2,11 @@
 use Rattle.std.proofs.Common.{◌≡◌, refl, ◌∙◌, ap, ap₂, List, ℕ, zero, suc, ◌+◌, ◌*◌, ◌-◌, ◌^◌, ◌<◌, ◌≤◌, length, get_or, set, ℤ, pos, ◌+ℤ◌, arith}
 use Rattle.std.proofs.Math.Path.{subst⁻¹}
 use Rattle.std.proofs.Math.Nat.{one-le-pow}
-use Rattle.integers.specs.Order.{pos-≤ℤ}
+use Rattle.integers.proofs.Theorems.Order.{pos-≤ℤ}
 use Rattle.integers.specs.Units.{detail_limit}
-use Rattle.integers.specs.Within.{Within, within_le, within_zero}
-use Rattle.integers.specs.Bits.{result_is}
+use Rattle.integers.specs.Within.{Within}
+use Rattle.integers.proofs.Theorems.Within.{within_le, within_zero}
+use Rattle.integers.proofs.Theorems.Bits.{result_is}
 use Rattle.edge.specs.declared.Edge.{Edge}
 use Rattle.edge.specs.Rounded.{root_term}
 use Rattle.haar.specs.Cells.{children}
@@ -17,10 +18,10 @@ use Rattle.rasterize.specs.Nodes.{node_at}
 use Rattle.rasterize.specs.Contribution.{contribution}
 use Rattle.rasterize.specs.Ready.{sum_limit, visits, Spare, Ready, ReadyIn}
 use Rattle.rasterize.specs.Stages.{stage_at, stage_node, StageOf}
-use Rattle.rasterize.specs.Laws.Adding.{added-length, added-added}
-use Rattle.rasterize.specs.Laws.Spare.{spare_added}
-use Rattle.rasterize.specs.Laws.Stages.{stage_node_lem}
-use Rattle.rasterize.specs.Laws.EdgeAdded.{rooted_added}
+use Rattle.rasterize.proofs.Laws.Adding.{added-length, added-added}
+use Rattle.rasterize.proofs.Laws.Spare.{spare_added}
+use Rattle.rasterize.proofs.Laws.Stages.{stage_node_lem}
+use Rattle.rasterize.proofs.Laws.EdgeAdded.{rooted_added}
 use Rattle.rasterize.proofs.add_within.Goals as goal
 
 at_root_lem : {r : ℤ} → Within (pos detail_limit) r → (i : ℕ) → Within (pos (1 * detail_limit)) (at_root r i)

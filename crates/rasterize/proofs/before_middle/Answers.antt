@@ -2,11 +2,13 @@
 use Rattle.std.proofs.Common.{◌∙◌, [], ◌∷◌, ℕ, ◌+◌, ◌*◌, ◌<◌, ℤ, pos, ◌+ℤ◌, ◌-ℤ◌, ◌*ℤ◌, w64, to_z, arith}
 use Rattle.std.proofs.lemmas.Int.{to_z_pos}
 use Rattle.integers.specs.Units.{greatest_side}
-use Rattle.integers.specs.Order.{pos-≤ℤ, nonneg}
-use Rattle.integers.specs.Ring.{read, ring}
-use Rattle.integers.specs.Within.{Within, within_le, within_self}
+use Rattle.integers.proofs.Theorems.Order.{pos-≤ℤ, nonneg}
+use Rattle.integers.proofs.Theorems.Ring.{read, ring}
+use Rattle.integers.specs.Within.{Within}
+use Rattle.integers.proofs.Theorems.Within.{within_le, within_self}
 use Rattle.integers.specs.Bits.{back}
-use Rattle.integers.specs.Held.{Held, held_number, held-add, held_sub, held-mul, held_fits, held_back}
+use Rattle.integers.specs.Held.{Held}
+use Rattle.integers.proofs.Theorems.Held.{held_number, held-add, held_sub, held-mul, held_fits, held_back}
 use Rattle.edge.specs.Room.{coordinate_limit}
 use Rattle.rasterize.proofs.before_middle.Goals as goal
 

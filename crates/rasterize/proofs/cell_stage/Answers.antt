@@ -4,14 +4,16 @@ use Rattle.std.proofs.lemmas.Int.{to_z_pos}
 use Rattle.std.proofs.Math.Path.{subst⁻¹}
 use Rattle.std.specs.Int.Signed.{mag}
 use Rattle.integers.specs.Units.{steps_per_pixel, greatest_depth}
-use Rattle.integers.specs.Order.{pos-≤ℤ, nonneg}
-use Rattle.integers.specs.Within.{Within, within_le, within_self}
-use Rattle.integers.specs.Bits.{back, back_is, within_back, fits_within, result_is}
+use Rattle.integers.proofs.Theorems.Order.{pos-≤ℤ, nonneg}
+use Rattle.integers.specs.Within.{Within}
+use Rattle.integers.proofs.Theorems.Within.{within_le, within_self}
+use Rattle.integers.specs.Bits.{back}
+use Rattle.integers.proofs.Theorems.Bits.{back_is, within_back, fits_within, result_is}
 use Rattle.edge.specs.Room.{coordinate_limit}
 use Rattle.edge.specs.Code.{before_middle}
 use Rattle.accuracy.specs.Tile.{cell_width}
-use Rattle.accuracy.specs.Laws.EntryBounds.{tile_width_le}
-use Rattle.rasterize.specs.Laws.Stages.{stage_eq, stage_few}
+use Rattle.accuracy.proofs.Laws.EntryBounds.{tile_width_le}
+use Rattle.rasterize.proofs.Laws.Stages.{stage_eq, stage_few}
 use Rattle.rasterize.proofs.cell_stage.Goals as goal
 
 -- the width of the tile that has the levels from `level` on

@@ -2,24 +2,27 @@
 use Rattle.std.proofs.Common.{◌≡◌, ◌∙◌, ap, ap₂, List, ℕ, ◌+◌, ◌-◌, ◌<◌, ◌≤◌, ℤ, pos, ◌-ℤ◌, ◌≤ℤ◌, w64, to_z, arith}
 use Rattle.std.proofs.Math.Path.{subst⁻¹}
 use Rattle.std.proofs.lemmas.Int.{to_z_pos}
-use Rattle.integers.specs.Order.{nonneg, pos-≤ℤ}
+use Rattle.integers.proofs.Theorems.Order.{nonneg, pos-≤ℤ}
 use Rattle.integers.specs.Magnitude.{abs}
-use Rattle.integers.specs.Within.{Within, within_le, within_self}
-use Rattle.integers.specs.Bits.{back, back_is, within_back, fits_within}
-use Rattle.integers.specs.Held.{Held, held_number, held_sub, held_back, held_within}
+use Rattle.integers.specs.Within.{Within}
+use Rattle.integers.proofs.Theorems.Within.{within_le, within_self}
+use Rattle.integers.specs.Bits.{back}
+use Rattle.integers.proofs.Theorems.Bits.{back_is, within_back, fits_within}
+use Rattle.integers.specs.Held.{Held}
+use Rattle.integers.proofs.Theorems.Held.{held_number, held_sub, held_back, held_within}
 use Rattle.edge.specs.declared.Details.{Details}
 use Rattle.edge.specs.declared.Edge.{Edge}
 use Rattle.edge.specs.Walk.{dx, dy}
 use Rattle.edge.specs.Room.{coordinate_limit, extent_limit, Measured}
-use Rattle.edge.specs.Laws.Cells.{sheet_measured}
+use Rattle.edge.proofs.Laws.Cells.{sheet_measured}
 use Rattle.edge.specs.Code.{quarter_details}
 use Rattle.edge.specs.Rounded.{details}
 use Rattle.rasterize.specs.declared.Node.{Node}
 use Rattle.rasterize.specs.declared.Stage.{Stage}
 use Rattle.rasterize.specs.Ready.{SmallDetails, Ready}
 use Rattle.rasterize.specs.Stages.{StageRoom}
-use Rattle.rasterize.specs.Laws.OnSheet.{on_sheet_details}
-use Rattle.rasterize.specs.Laws.ReadyCells.{ready_own, ready_first}
+use Rattle.rasterize.proofs.Laws.OnSheet.{on_sheet_details}
+use Rattle.rasterize.proofs.Laws.ReadyCells.{ready_own, ready_first}
 use Rattle.rasterize.proofs.Descending.{OnWay, way_room, way_ready, way_details, way_first, way_step}
 use Rattle.rasterize.proofs.descend.Goals as goal
 

@@ -1,20 +1,22 @@
 -- Both sides of the tile, of which one is 0, less both ends.
 use Rattle.std.proofs.Common.{◌≡◌, refl, sym, ◌∙◌, ap, [], ◌∷◌, ℕ, ◌≤◌, ℤ, pos, ◌+ℤ◌, ◌-ℤ◌, w64, to_z, arith}
 use Rattle.std.proofs.lemmas.Int.{to_z_pos}
-use Rattle.integers.specs.Ring.{read, ring}
+use Rattle.integers.proofs.Theorems.Ring.{read, ring}
 use Rattle.integers.specs.Units.{greatest_depth}
-use Rattle.integers.specs.Order.{nonneg, pos-≤ℤ}
-use Rattle.integers.specs.Within.{Within, within_le, within_self}
+use Rattle.integers.proofs.Theorems.Order.{nonneg, pos-≤ℤ}
+use Rattle.integers.specs.Within.{Within}
+use Rattle.integers.proofs.Theorems.Within.{within_le, within_self}
 use Rattle.integers.specs.Bits.{back}
-use Rattle.integers.specs.Held.{Held, held_number, held-add, held_sub, held_back}
+use Rattle.integers.specs.Held.{Held}
+use Rattle.integers.proofs.Theorems.Held.{held_number, held-add, held_sub, held_back}
 use Rattle.edge.specs.declared.Cell.{Cell as Square}
 use Rattle.edge.specs.Room.{coordinate_limit}
 use Rattle.edge.specs.Code.{before_middle}
 use Rattle.accuracy.specs.Tile.{cell_width}
-use Rattle.accuracy.specs.Laws.Squares.{square-tile}
-use Rattle.accuracy.specs.Laws.EntryBounds.{tile_width_le}
+use Rattle.accuracy.proofs.Laws.Squares.{square-tile}
+use Rattle.accuracy.proofs.Laws.EntryBounds.{tile_width_le}
 use Rattle.rasterize.specs.Stages.{stage_at}
-use Rattle.rasterize.specs.Laws.Stages.{stage_eq}
+use Rattle.rasterize.proofs.Laws.Stages.{stage_eq}
 use Rattle.rasterize.proofs.first_stage.Goals as goal
 
 module _ {depth width : ℕ} (deep : depth ≤ greatest_depth) (is : width ≡ cell_width depth 0) where

@@ -1,9 +1,9 @@
 -- Back it is in the second half first.
 use Rattle.std.proofs.Common.{◌≡◌, refl, [], ◌∷◌, ℕ, ◌-◌, ℤ, pos, negsuc, ◌≤ℤ◌, ◌<ℤ◌}
 use Rattle.std.proofs.Math.Facts.{sfits_lit}
-use Rattle.integers.specs.Order.{nonneg}
-use Rattle.integers.specs.Linear.{le, lt, ◌&◌, linear, lin⊥}
-use Rattle.integers.specs.Machine.{tests}
+use Rattle.integers.proofs.Theorems.Order.{nonneg}
+use Rattle.integers.proofs.Theorems.Linear.{le, lt, ◌&◌, linear, lin⊥}
+use Rattle.integers.proofs.Theorems.Machine.{tests}
 use Rattle.slanted.specs.Parts.{half_on}
 use Rattle.rasterize.proofs.half_on.Goals as goal
 

@@ -1,7 +1,8 @@
 -- Both lie between, or the first does not.
 use Rattle.std.proofs.Common.{◌≡◌, sym, ◌∙◌, ap₂, [], ◌∷◌, Bool, true≢false, ℤ, pos, SFits, w64, to_z-of_z}
-use Rattle.integers.specs.Linear.{le, linear, lin≤}
-use Rattle.integers.specs.Tests.{between, between_means}
+use Rattle.integers.proofs.Theorems.Linear.{le, linear, lin≤}
+use Rattle.integers.specs.Tests.{between}
+use Rattle.integers.proofs.Theorems.Tests.{between_means}
 use Rattle.integers.specs.Bits.{back}
 use Rattle.edge.specs.Nested.{OnRange}
 use Rattle.edge.specs.WalkOf.{Decides}

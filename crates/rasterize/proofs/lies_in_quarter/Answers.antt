@@ -2,8 +2,9 @@
 use Rattle.std.proofs.Common.{sym, ◌∙◌, subst, Bool, true≢false, ℤ, pos, ◌-ℤ◌, ◌≤ℤ◌}
 use Rattle.integers.specs.Magnitude.{abs}
 use Rattle.integers.specs.Within.{Within}
-use Rattle.integers.specs.Bits.{back, back_is}
-use Rattle.integers.specs.Held.{held_number, held_sub, held_back}
+use Rattle.integers.specs.Bits.{back}
+use Rattle.integers.proofs.Theorems.Bits.{back_is}
+use Rattle.integers.proofs.Theorems.Held.{held_number, held_sub, held_back}
 use Rattle.edge.specs.Room.{coordinate_limit, extent_limit}
 use Rattle.edge.specs.WalkOf.{Decides}
 use Rattle.rasterize.proofs.lies_in_quarter.Goals as goal

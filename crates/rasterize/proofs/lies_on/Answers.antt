@@ -1,7 +1,8 @@
 -- Both ends in x, and both in y.
 use Rattle.std.proofs.Common.{sym, ◌∙◌, subst, Bool, true≢false, ℤ, pos, SFits, w64, to_z-of_z}
 use Rattle.integers.specs.Within.{Within}
-use Rattle.integers.specs.Bits.{back, back_is}
+use Rattle.integers.specs.Bits.{back}
+use Rattle.integers.proofs.Theorems.Bits.{back_is}
 use Rattle.edge.specs.Room.{coordinate_limit}
 use Rattle.edge.specs.Nested.{OnRange}
 use Rattle.edge.specs.WalkOf.{Decides}

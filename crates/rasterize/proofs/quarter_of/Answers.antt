@@ -2,17 +2,20 @@
 use Rattle.std.proofs.Common.{◌≡◌, refl, sym, ◌∙◌, ap, ap₂, [], ◌∷◌, ℕ, suc, ◌+◌, ◌*◌, ◌/◌, ◌%◌, ◌^◌, ◌<◌, ℤ, pos, ◌+ℤ◌, ◌*ℤ◌, ◌≤ℤ◌, w64, to_z, arith}
 use Rattle.std.proofs.lemmas.Int.{to_z_pos}
 use Rattle.std.specs.Int.Signed.{mag}
-use Rattle.integers.specs.Linear.{le, eq, ◌&◌, linear, lin≤}
-use Rattle.integers.specs.Order.{nonneg, pos-≤ℤ}
-use Rattle.integers.specs.Within.{Within, within_is, within_le, within_self}
-use Rattle.integers.specs.Bits.{back, back_is, result_is}
-use Rattle.integers.specs.Held.{Held, held_number, held-add, held-mul, held_fits, held_back}
+use Rattle.integers.proofs.Theorems.Linear.{le, eq, ◌&◌, linear, lin≤}
+use Rattle.integers.proofs.Theorems.Order.{nonneg, pos-≤ℤ}
+use Rattle.integers.specs.Within.{Within}
+use Rattle.integers.proofs.Theorems.Within.{within_is, within_le, within_self}
+use Rattle.integers.specs.Bits.{back}
+use Rattle.integers.proofs.Theorems.Bits.{back_is, result_is}
+use Rattle.integers.specs.Held.{Held}
+use Rattle.integers.proofs.Theorems.Held.{held_number, held-add, held-mul, held_fits, held_back}
 use Rattle.edge.specs.declared.Cell.{Cell as Square}
 use Rattle.edge.specs.Room.{coordinate_limit}
 use Rattle.rasterize.specs.declared.Node.{Node}
 use Rattle.rasterize.specs.Nodes.{half_width}
 use Rattle.rasterize.specs.Ready.{Splits}
-use Rattle.rasterize.specs.Laws.Nodes.{half_width_is}
+use Rattle.rasterize.proofs.Laws.Nodes.{half_width_is}
 use Rattle.rasterize.proofs.quarter_of.Goals as goal
 
 square-eq : {a a' b b' w w' : ℤ} → a ≡ a' → b ≡ b' → w ≡ w'

@@ -1,11 +1,12 @@
 -- Its numbers are small, and its halves are those on the way.
 use Rattle.std.proofs.Common.{◌≡◌, ◌∙◌, ap, ap₂, ℕ, ◌<◌, ℤ, pos, arith}
 use Rattle.integers.specs.Within.{Within}
-use Rattle.integers.specs.Bits.{back, back_is}
+use Rattle.integers.specs.Bits.{back}
+use Rattle.integers.proofs.Theorems.Bits.{back_is}
 use Rattle.slanted.specs.Parts.{half_on}
-use Rattle.slanted.specs.Laws.PieceParts.{half_on_below}
+use Rattle.slanted.proofs.Laws.PieceParts.{half_on_below}
 use Rattle.rasterize.specs.declared.Spot.{Spot}
-use Rattle.rasterize.specs.Laws.Nodes.{few}
+use Rattle.rasterize.proofs.Laws.Nodes.{few}
 use Rattle.rasterize.proofs.quarter_on.Goals as goal
 
 -- the sign, read back from its bits

@@ -1,8 +1,8 @@
 -- The quarter's numbers, half the width, and how far the ends lie before its middles.
 use Rattle.std.proofs.Common.{◌<◌, arith}
 use Rattle.std.proofs.Math.Path.{subst⁻¹}
-use Rattle.edge.specs.Laws.Cells.{half_below}
-use Rattle.rasterize.specs.Laws.Stages.{stage_few}
+use Rattle.edge.proofs.Laws.Cells.{half_below}
+use Rattle.rasterize.proofs.Laws.Stages.{stage_few}
 use Rattle.rasterize.proofs.quarter_stage.Goals as goal
 
 pub overflow_add-result-2 : goal.overflow_add-result-2

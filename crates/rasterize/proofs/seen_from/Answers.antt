@@ -2,7 +2,7 @@
 use Rattle.std.proofs.Common.{◌≡◌, ◌∙◌, ap₂, ℤ, pos, ◌-ℤ◌, SFits, w64, to_z-of_z, rules}
 use Rattle.integers.specs.Within.{Within}
 use Rattle.integers.specs.Bits.{back}
-use Rattle.integers.specs.Held.{held_back}
+use Rattle.integers.proofs.Theorems.Held.{held_back}
 use Rattle.edge.specs.declared.Edge.{Edge}
 use Rattle.edge.specs.Room.{coordinate_limit}
 use Rattle.rasterize.proofs.seen_from.Goals as goal

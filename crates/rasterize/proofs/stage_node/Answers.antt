@@ -2,13 +2,14 @@
 use Rattle.std.proofs.Common.{ap, ap₂, ◌∙◌, ℕ, ◌<◌, ◌≤◌, ◌*◌, ◌^◌, pos, ◌*ℤ◌, w64, to_z, arith}
 use Rattle.std.proofs.lemmas.Int.{to_z_pos}
 use Rattle.integers.specs.Units.{greatest_side}
-use Rattle.integers.specs.Order.{nonneg, pos-≤ℤ}
-use Rattle.integers.specs.Within.{within_le, within_self}
-use Rattle.integers.specs.Held.{Held, held-mul, held_fits, held_back}
+use Rattle.integers.proofs.Theorems.Order.{nonneg, pos-≤ℤ}
+use Rattle.integers.proofs.Theorems.Within.{within_le, within_self}
+use Rattle.integers.specs.Held.{Held}
+use Rattle.integers.proofs.Theorems.Held.{held-mul, held_fits, held_back}
 use Rattle.edge.specs.Room.{coordinate_limit}
 use Rattle.rasterize.specs.declared.Stage.{Stage}
 use Rattle.rasterize.specs.Stages.{StageRoom}
-use Rattle.rasterize.specs.Laws.Stages.{stage_few}
+use Rattle.rasterize.proofs.Laws.Stages.{stage_few}
 use Rattle.rasterize.proofs.stage_node.Goals as goal
 
 number : {n b : ℕ} → b < 2 ^ 63 → n ≤ b → Held b (to_z w64 n) (pos n)

@@ -19,19 +19,20 @@ use Rattle.rasterize.specs.Views.{view_table, InView}
 use Rattle.tile.specs.declared.Built.{Built}
 use Rattle.tile.specs.Questions.{Question, first_no, depth_of, question3, question4, question6, question12, outline_questions}
 use Rattle.tile.specs.Outcomes.{edges_of}
-use Rattle.tile.specs.Laws.IfDone.{if_done_lem, if_refused}
-use Rattle.tile.specs.Laws.FirstNo.{first_no-zero}
-use Rattle.tile.specs.Laws.Asking.{first_refused, first_passed}
-use Rattle.tile.specs.Laws.Building.{cleared_fits, cleared_built}
-use Rattle.tile.specs.Laws.CountsSum.{capped_within}
+use Rattle.tile.proofs.Laws.IfDone.{if_done_lem, if_refused}
+use Rattle.tile.proofs.Laws.FirstNo.{first_no-zero}
+use Rattle.tile.proofs.Laws.Asking.{first_refused, first_passed}
+use Rattle.tile.proofs.Laws.Building.{cleared_fits, cleared_built}
+use Rattle.tile.proofs.Laws.CountsSum.{capped_within}
 use Rattle.sheet.specs.declared.Site.{Site}
 use Rattle.sheet.specs.declared.Site.TheVariants.{OnSheet}
 use Rattle.sheet.specs.SheetQuestions.{place_questions}
 use Rattle.sheet.specs.SheetOutcomes.{sheet_refusal, sheet_table}
 use Rattle.sheet.specs.FaithfulOnSheet.{FaithfulOnSheet}
-use Rattle.sheet.specs.SheetTheorem.{AcceptedOnSheet, sheet_accepted, sheet_faithful}
+use Rattle.sheet.specs.SheetTheorem.{AcceptedOnSheet}
+use Rattle.sheet.proofs.Theorems.SheetTheorem.{sheet_accepted, sheet_faithful}
 use Rattle.sheet.specs.Sites.{view_at}
-use Rattle.sheet.specs.Laws.SiteEdges.{site_side, site_in_view, site_entries}
+use Rattle.sheet.proofs.Laws.SiteEdges.{site_side, site_in_view, site_entries}
 use Rattle.sheet.proofs.build_on_sheet.Statement.{statement}
 use Rattle.sheet.proofs.build_on_sheet.Tie as tie
 

@@ -4,17 +4,17 @@ use Prim.Native.Nat.{ℕ, ◌*◌, ◌/◌, ◌<◌, ◌≤◌}
 use native.Mathlib.Omega.{arith}
 use lib.IntN.{ℤ, pos}
 use Rattle.integers.specs.Units.{steps_per_pixel, greatest_sheet_side}
-use Rattle.integers.specs.Bits.{result_is}
+use Rattle.integers.proofs.Theorems.Bits.{result_is}
 use Rattle.accuracy.specs.Sheet.{corner}
 use Rattle.rasterize.specs.declared.View.TheVariants.{From}
 use Rattle.tile.specs.Questions.{depth_of}
-use Rattle.tile.specs.Laws.Sides.{side_power}
-use Rattle.tile.specs.Laws.Accepted.{side_width}
+use Rattle.tile.proofs.Laws.Sides.{side_power}
+use Rattle.tile.proofs.Laws.Accepted.{side_width}
 use Rattle.sheet.specs.declared.SheetTile.{SheetTile}
 use Rattle.sheet.specs.declared.Site.TheVariants.{OnSheet}
-use Rattle.sheet.specs.SheetRefusals.{question15_means}
+use Rattle.sheet.proofs.Theorems.SheetRefusals.{question15_means}
 use Rattle.sheet.specs.Sites.{SiteYes}
-use Rattle.sheet.specs.Laws.Places.{sheet_le, sheet_tile_side, place_fits}
+use Rattle.sheet.proofs.Laws.Places.{sheet_le, sheet_tile_side, place_fits}
 use Rattle.sheet.proofs.corner_of.Statement.{statement}
 use Rattle.sheet.proofs.corner_of.Tie as tie
 

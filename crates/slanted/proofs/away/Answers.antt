@@ -2,7 +2,8 @@
 use Rattle.std.proofs.Common.{◌∙◌, ap₂, subst, ◌*◌, nat_abs, ◌*ℤ◌, to_z-of_z}
 use Rattle.integers.specs.Rounding.{round_half_away}
 use Rattle.integers.specs.Bits.{back}
-use Rattle.integers.specs.Held.{Held, held_number, held-mul, held_fits, held_back}
+use Rattle.integers.specs.Held.{Held}
+use Rattle.integers.proofs.Theorems.Held.{held_number, held-mul, held_fits, held_back}
 use Rattle.slanted.specs.Under.{sum_limit, Turns}
 use Rattle.slanted.proofs.SumBits.{rounded_within, sign_within, sign-rounded}
 use Rattle.slanted.proofs.away.Goals as goal

@@ -1,16 +1,17 @@
 -- The details: each sum over the divisor, rounded, with its sign.
 use Rattle.std.proofs.Common.{◌≡◌, refl, ◌∙◌, ap₂, [], ℕ, T, leb, ℤ, pos, nat_abs, ◌≤ℤ◌, to_z-of_z}
 use Rattle.std.proofs.Math.Path.{subst⁻¹}
-use Rattle.integers.specs.Order.{≤ℤ_trans}
-use Rattle.integers.specs.Linear.{none!, linear, lin≤}
+use Rattle.integers.proofs.Theorems.Order.{≤ℤ_trans}
+use Rattle.integers.proofs.Theorems.Linear.{none!, linear, lin≤}
 use Rattle.integers.specs.Rounding.{round_half_away}
 use Rattle.integers.specs.Bits.{back, greatest}
-use Rattle.integers.specs.Held.{Held, held_back, held_within}
+use Rattle.integers.specs.Held.{Held}
+use Rattle.integers.proofs.Theorems.Held.{held_back, held_within}
 use Rattle.slanted.specs.declared.Slope.{Slope}
 use Rattle.slanted.specs.declared.Piece.{Piece}
 use Rattle.slanted.specs.Under.{under, sum_limit, Arch}
 use Rattle.slanted.specs.Pieces.{rounded_details, Sound}
-use Rattle.slanted.specs.Laws.Sums.{under-range}
+use Rattle.slanted.proofs.Laws.Sums.{under-range}
 use Rattle.slanted.proofs.SumBits.{rounded_within}
 use Rattle.slanted.proofs.PieceBits.{x_sum, y_sum, turned_sum, divisor_fits, divisor_back, signed_by_eq}
 use Rattle.slanted.proofs.divided.Goals as goal

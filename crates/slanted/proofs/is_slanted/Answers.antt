@@ -2,7 +2,7 @@
 use Rattle.std.proofs.Common.{◌≡◌, sym, ◌∙◌, ap, true, true≢false, not, nat_eq, pos, w64, of_z}
 use Rattle.edge.specs.declared.Axis.{Axis}
 use Rattle.slanted.specs.Pieces.{Moving, onward, back}
-use Rattle.slanted.specs.Laws.Walks.{moving-walk}
+use Rattle.slanted.proofs.Laws.Walks.{moving-walk}
 use Rattle.slanted.proofs.is_slanted.Goals as goal
 
 moves : {a : Axis} → Moving a → not (nat_eq (of_z w64 a.sign) 0) ≡ true

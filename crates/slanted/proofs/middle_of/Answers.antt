@@ -3,7 +3,8 @@ use Rattle.std.proofs.Common.{◌+◌, ◌*◌, ℤ, pos, ◌+ℤ◌, ◌-ℤ◌
 use Rattle.integers.specs.Units.{width_times_extent_limit}
 use Rattle.integers.specs.Within.{Within}
 use Rattle.integers.specs.Bits.{back}
-use Rattle.integers.specs.Held.{Held, held_number, held-add, held_sub, held-mul, held_fits, held_back}
+use Rattle.integers.specs.Held.{Held}
+use Rattle.integers.proofs.Theorems.Held.{held_number, held-add, held_sub, held-mul, held_fits, held_back}
 use Rattle.edge.specs.declared.Axis.{Axis}
 use Rattle.edge.specs.Room.{coordinate_limit, extent_limit}
 use Rattle.edge.specs.Cuts.{to_side}

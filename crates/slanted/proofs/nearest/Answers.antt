@@ -2,15 +2,17 @@
 use Rattle.std.proofs.Common.{◌≡◌, ◌∙◌, ap, ap₂, inl, inr, [], ◌∷◌, ◌⊎◌, ◌+◌, ℤ, pos, nat_abs, ◌+ℤ◌, ◌-ℤ◌, ◌*ℤ◌, ◌≤ℤ◌, ◌<ℤ◌, w64, SFits, to_z-of_z}
 use Rattle.std.proofs.Math.Path.{subst⁻¹}
 use Rattle.std.specs.Int.Signed.{quot_z, rem_z, shr_z, lt_z_yes}
-use Rattle.integers.specs.Order.{≤ℤ_or_<ℤ, ≤ℤ-mul, ≤ℤ_of_<ℤ, add_one_≤ℤ}
-use Rattle.integers.specs.Linear.{le, lt, eq, ◌&◌, linear, lin≤, lin<, lin⊥}
-use Rattle.integers.specs.Machine.{known}
+use Rattle.integers.proofs.Theorems.Order.{≤ℤ_or_<ℤ, ≤ℤ-mul, ≤ℤ_of_<ℤ, add_one_≤ℤ}
+use Rattle.integers.proofs.Theorems.Linear.{le, lt, eq, ◌&◌, linear, lin≤, lin<, lin⊥}
+use Rattle.integers.proofs.Theorems.Machine.{known}
 use Rattle.integers.specs.Rounding.{round_half_away}
-use Rattle.integers.specs.RoundHalfAway.{round_half_away_of_bounds'}
-use Rattle.integers.specs.Division.{truncated, quot_fits, shift_quot}
-use Rattle.integers.specs.Bits.{back, fits_within}
-use Rattle.integers.specs.Held.{Held, held_back}
-use Rattle.integers.specs.Within.{within_le, within_self, within_add}
+use Rattle.integers.proofs.Theorems.RoundHalfAway.{round_half_away_of_bounds'}
+use Rattle.integers.proofs.Theorems.Division.{truncated, quot_fits, shift_quot}
+use Rattle.integers.specs.Bits.{back}
+use Rattle.integers.proofs.Theorems.Bits.{fits_within}
+use Rattle.integers.specs.Held.{Held}
+use Rattle.integers.proofs.Theorems.Held.{held_back}
+use Rattle.integers.proofs.Theorems.Within.{within_le, within_self, within_add}
 use Rattle.edge.specs.Room.{crossing_limit}
 use Rattle.slanted.specs.Under.{sum_limit}
 use Rattle.slanted.proofs.nearest.Goals as goal

@@ -1,9 +1,11 @@
 -- The six numbers of a part.
 use Rattle.std.proofs.Common.{◌≡◌, sym, ◌∙◌, ap, ap₂, [], ◌∷◌, ◌/◌, ◌%◌, ℤ, pos, ◌+ℤ◌, ◌≤ℤ◌, rules}
 use Rattle.integers.specs.Units.{width_times_extent_limit}
-use Rattle.integers.specs.Linear.{le, eq, ◌&◌, linear, lin≤}
-use Rattle.integers.specs.Within.{Within, bounds}
-use Rattle.integers.specs.Bits.{back, back_is, result_is}
+use Rattle.integers.proofs.Theorems.Linear.{le, eq, ◌&◌, linear, lin≤}
+use Rattle.integers.specs.Within.{Within}
+use Rattle.integers.proofs.Theorems.Within.{bounds}
+use Rattle.integers.specs.Bits.{back}
+use Rattle.integers.proofs.Theorems.Bits.{back_is, result_is}
 use Rattle.slanted.specs.Under.{far_limit}
 use Rattle.slanted.specs.Parts.{since, until, shifted}
 use Rattle.slanted.proofs.part_of.Goals as goal

@@ -1,17 +1,20 @@
 -- The six numbers of a walk in a cell.
 use Rattle.std.proofs.Common.{◌≡◌, ◌∙◌, ap, ap₂, ℤ, pos, ◌+ℤ◌, ◌*ℤ◌, ◌≤ℤ◌, w64, SFits, to_z-of_z, rules}
 use Rattle.integers.specs.Units.{width_times_extent_limit}
-use Rattle.integers.specs.Within.{Within, within_le, within_self}
-use Rattle.integers.specs.Bits.{back, back_is, fits_within, result_is, within_back}
-use Rattle.integers.specs.Held.{Held, held_fits, held_back, held_within}
+use Rattle.integers.specs.Within.{Within}
+use Rattle.integers.proofs.Theorems.Within.{within_le, within_self}
+use Rattle.integers.specs.Bits.{back}
+use Rattle.integers.proofs.Theorems.Bits.{back_is, fits_within, result_is, within_back}
+use Rattle.integers.specs.Held.{Held}
+use Rattle.integers.proofs.Theorems.Held.{held_fits, held_back, held_within}
 use Rattle.edge.specs.declared.Axis.{Axis}
 use Rattle.edge.specs.declared.Span.{Span}
 use Rattle.edge.specs.Cuts.{to_side}
 use Rattle.edge.specs.Room.{coordinate_limit, extent_limit}
 use Rattle.edge.specs.Code.{AxisRoom}
-use Rattle.slanted.specs.Laws.Walks.{walk-room}
-use Rattle.slanted.specs.Laws.PieceSound.{half_within}
-use Rattle.slanted.specs.Laws.PieceParts.{piece_eq}
+use Rattle.slanted.proofs.Laws.Walks.{walk-room}
+use Rattle.slanted.proofs.Laws.PieceSound.{half_within}
+use Rattle.slanted.proofs.Laws.PieceParts.{piece_eq}
 use Rattle.slanted.proofs.piece_of.Goals as goal
 
 -- ---- one direction, where `half` is half of the width

@@ -1,6 +1,6 @@
 -- A crossing moved by q steps, back or on.
 use Rattle.std.proofs.Common.{sym, ◌∙◌}
-use Rattle.integers.specs.Held.{held_number, held-add, held_sub, held_back}
+use Rattle.integers.proofs.Theorems.Held.{held_number, held-add, held_sub, held_back}
 use Rattle.slanted.proofs.HalfTests.{shifted_before, shifted_after}
 use Rattle.slanted.proofs.shifted.Goals as goal
 

@@ -1,7 +1,7 @@
 -- Two numbers with their signs, and one as it is.
 use Rattle.std.proofs.Common.{to_z-of_z}
-use Rattle.integers.specs.Held.{held_number, held-mul, held-neg, held_back}
-use Rattle.edge.specs.Lemmas.Records.{details-eq}
+use Rattle.integers.proofs.Theorems.Held.{held_number, held-mul, held-neg, held_back}
+use Rattle.edge.proofs.Lemmas.Records.{details-eq}
 use Rattle.slanted.proofs.signed.Goals as goal
 
 pub returns : goal.returns

@@ -2,10 +2,12 @@
 use Rattle.std.proofs.Common.{◌≡◌, ◌∙◌, ap, ◌≤◌, pos, nat_abs, w64, to_z, arith}
 use Rattle.std.proofs.Math.Facts.{to_z_pos}
 use Rattle.integers.specs.Units.{width_times_extent_limit}
-use Rattle.integers.specs.Magnitude.{abs, abs-nonneg}
-use Rattle.integers.specs.Within.{within_le, within_self, abs_of_within, nat_abs_of_within}
-use Rattle.integers.specs.Bits.{back_is}
-use Rattle.integers.specs.Held.{Held, held_number, held-mul, held_back}
+use Rattle.integers.specs.Magnitude.{abs}
+use Rattle.integers.proofs.Theorems.Magnitude.{abs-nonneg}
+use Rattle.integers.proofs.Theorems.Within.{within_le, within_self, abs_of_within, nat_abs_of_within}
+use Rattle.integers.proofs.Theorems.Bits.{back_is}
+use Rattle.integers.specs.Held.{Held}
+use Rattle.integers.proofs.Theorems.Held.{held_number, held-mul, held_back}
 use Rattle.slanted.proofs.signed_square.Goals as goal
 
 pub returns : goal.returns

@@ -1,7 +1,7 @@
 -- The first step in a half.
 use Rattle.std.proofs.Common.{sym, ◌∙◌, ap₂, to_z-of_z}
 use Rattle.integers.specs.MinMax.{max}
-use Rattle.integers.specs.Bits.{result_is}
+use Rattle.integers.proofs.Theorems.Bits.{result_is}
 use Rattle.slanted.proofs.HalfTests.{since_before, since_after}
 use Rattle.slanted.proofs.since.Goals as goal
 

@@ -2,7 +2,7 @@
 use Rattle.std.proofs.Common.{◌≡◌, sym, ◌∙◌, ap, rules}
 use Rattle.integers.specs.Bits.{back}
 use Rattle.edge.specs.Cuts.{all_steps}
-use Rattle.slanted.specs.Laws.WholeSpan.{span_whole}
+use Rattle.slanted.proofs.Laws.WholeSpan.{span_whole}
 use Rattle.slanted.proofs.span_on.Goals as goal
 
 pub returns-then-is_slanted : goal.returns-then-is_slanted

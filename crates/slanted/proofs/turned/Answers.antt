@@ -1,12 +1,13 @@
 -- The sign is turned nowhere, everywhere, or from step y on.
 use Rattle.std.proofs.Common.{◌≡◌, refl, sym, ◌∙◌, ◌+◌, ◌*◌, ℤ, pos, ◌-ℤ◌, ◌*ℤ◌, ◌≤ℤ◌, w64, SFits, to_z-of_z}
-use Rattle.integers.specs.Order.{nonneg}
-use Rattle.integers.specs.Machine.{tests}
-use Rattle.integers.specs.Within.{within_self}
+use Rattle.integers.proofs.Theorems.Order.{nonneg}
+use Rattle.integers.proofs.Theorems.Machine.{tests}
+use Rattle.integers.proofs.Theorems.Within.{within_self}
 use Rattle.integers.specs.Bits.{back}
-use Rattle.integers.specs.Held.{Held, held-neg, held_sub, held-mul, held_fits, held_back}
+use Rattle.integers.specs.Held.{Held}
+use Rattle.integers.proofs.Theorems.Held.{held-neg, held_sub, held-mul, held_fits, held_back}
 use Rattle.slanted.specs.Under.{under, under_limit, Arch}
-use Rattle.slanted.specs.Laws.Sums.{arch_before, turned_before, turned_after, turned-across}
+use Rattle.slanted.proofs.Laws.Sums.{arch_before, turned_before, turned_after, turned-across}
 use Rattle.slanted.proofs.SumBits.{arch_back, under_back, sum_within}
 use Rattle.slanted.proofs.turned.Goals as goal
 

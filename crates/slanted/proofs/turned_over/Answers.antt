@@ -1,15 +1,15 @@
 -- The same over n, rounded.
 use Rattle.std.proofs.Common.{◌≡◌, sym, ◌∙◌, ap, ℤ, pos, neg_ℤ, nat_abs, ◌≤ℤ◌, ◌<ℤ◌, to_z-of_z}
 use Rattle.std.proofs.Math.Path.{subst⁻¹}
-use Rattle.integers.specs.Machine.{tests}
+use Rattle.integers.proofs.Theorems.Machine.{tests}
 use Rattle.integers.specs.Within.{Within}
 use Rattle.integers.specs.Rounding.{round_half_away}
-use Rattle.integers.specs.Bits.{result_is}
-use Rattle.integers.specs.Held.{held_number, held-neg, held_fits, held_back}
+use Rattle.integers.proofs.Theorems.Bits.{result_is}
+use Rattle.integers.proofs.Theorems.Held.{held_number, held-neg, held_fits, held_back}
 use Rattle.edge.specs.Room.{crossing_limit}
 use Rattle.slanted.specs.Under.{under, under_limit, sum_limit, Arch}
-use Rattle.slanted.specs.Laws.Sums.{turned_before, turned_after, turned-range}
-use Rattle.slanted.specs.Laws.PieceDetails.{rounded-neg}
+use Rattle.slanted.proofs.Laws.Sums.{turned_before, turned_after, turned-range}
+use Rattle.slanted.proofs.Laws.PieceDetails.{rounded-neg}
 use Rattle.slanted.proofs.SumBits.{sum_within, turned-eq, rounded_within}
 use Rattle.slanted.proofs.turned_over.Goals as goal
 

@@ -1,12 +1,14 @@
 -- The sum under a tent, as it is defined.
 use Rattle.std.proofs.Common.{◌≡◌, refl, ◌∙◌, ap, ap₂, [], ◌∷◌, ℕ, ◌+◌, ◌*◌, ℤ, pos, ◌-ℤ◌, ◌*ℤ◌}
-use Rattle.integers.specs.Order.{nonneg}
-use Rattle.integers.specs.Ring.{read, ring}
+use Rattle.integers.proofs.Theorems.Order.{nonneg}
+use Rattle.integers.proofs.Theorems.Ring.{read, ring}
 use Rattle.integers.specs.Units.{width_times_extent_limit}
-use Rattle.integers.specs.Magnitude.{abs-nonneg}
-use Rattle.integers.specs.Within.{within_is, within_le, within_self, within_sub, within_mul, abs_of_within}
-use Rattle.integers.specs.Bits.{back, back_is}
-use Rattle.integers.specs.Held.{Held, held_number, held_sub, held-mul, held_fits, held_back}
+use Rattle.integers.proofs.Theorems.Magnitude.{abs-nonneg}
+use Rattle.integers.proofs.Theorems.Within.{within_is, within_le, within_self, within_sub, within_mul, abs_of_within}
+use Rattle.integers.specs.Bits.{back}
+use Rattle.integers.proofs.Theorems.Bits.{back_is}
+use Rattle.integers.specs.Held.{Held}
+use Rattle.integers.proofs.Theorems.Held.{held_number, held_sub, held-mul, held_fits, held_back}
 use Rattle.slanted.specs.Under.{signed_square, under, Arch}
 use Rattle.slanted.proofs.under_tent.Goals as goal
 

@@ -1,7 +1,7 @@
 -- The last step in a half.
 use Rattle.std.proofs.Common.{sym, ◌∙◌, ap₂, to_z-of_z}
 use Rattle.integers.specs.MinMax.{min}
-use Rattle.integers.specs.Bits.{result_is}
+use Rattle.integers.proofs.Theorems.Bits.{result_is}
 use Rattle.slanted.proofs.HalfTests.{until_before, until_after}
 use Rattle.slanted.proofs.until.Goals as goal
 

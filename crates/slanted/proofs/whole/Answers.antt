@@ -1,8 +1,8 @@
 -- The details over 1: the sums with their signs.
 use Rattle.std.proofs.Common.{◌≡◌, sym, ◌∙◌, ap, ℤ, pos, nat_abs}
 use Rattle.integers.specs.Rounding.{round_half_away}
-use Rattle.integers.specs.RoundHalfAway.{round_half_away_one}
-use Rattle.integers.specs.Held.{held_back, held_within}
+use Rattle.integers.proofs.Theorems.RoundHalfAway.{round_half_away_one}
+use Rattle.integers.proofs.Theorems.Held.{held_back, held_within}
 use Rattle.slanted.specs.Pieces.{rounded_details}
 use Rattle.slanted.proofs.PieceBits.{x_sum, y_sum, turned_sum, signed_by_eq}
 use Rattle.slanted.proofs.whole.Goals as goal

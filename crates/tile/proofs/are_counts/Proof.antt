@@ -7,7 +7,7 @@ use lib.ListN.{length, drop}
 use borrow.Author.Rules.{rules}
 use Rattle.integers.specs.Units.{fewest_points, most_points}
 use Rattle.integers.specs.Tests.{every}
-use Rattle.integers.specs.Every.{every_fails, every_next, every_end}
+use Rattle.integers.proofs.Theorems.Every.{every_fails, every_next, every_end}
 use Rattle.tile.proofs.are_counts.Statement.{statement}
 use Rattle.tile.proofs.are_counts.Tie as tie
 

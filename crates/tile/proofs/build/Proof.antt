@@ -2,8 +2,8 @@
 use mathlib.Core.Path.{refl, ◌∙◌, subst⁻¹}
 use borrow.Author.Rules.{rules}
 use Rattle.tile.specs.Faithful.{Faithful}
-use Rattle.tile.specs.Theorem.{faithful}
-use Rattle.tile.specs.PlacedOutline.{placed_none_as_built}
+use Rattle.tile.proofs.Theorems.Theorem.{faithful}
+use Rattle.tile.proofs.Theorems.PlacedOutline.{placed_none_as_built}
 use Rattle.tile.proofs.build.Statement.{statement}
 use Rattle.tile.proofs.build.Tie as tie
 

@@ -8,28 +8,29 @@ use lib.IntN.{ℤ}
 use lib.Signed.{le_z_yes}
 use borrow.Author.Rules.{rules}
 use Rattle.placement.specs.Placed.{placed}
-use Rattle.placement.specs.Laws.PlacedPoints.{placed-length}
-use Rattle.integers.specs.ListSum.{All, all_map}
+use Rattle.placement.proofs.Laws.PlacedPoints.{placed-length}
+use Rattle.integers.specs.ListSum.{All}
+use Rattle.integers.proofs.Theorems.ListSum.{all_map}
 use Rattle.edge.specs.declared.Edge.{Edge}
 use Rattle.accuracy.specs.Outline.{contours_of, edge_count}
-use Rattle.accuracy.specs.Laws.Contours.{outline_on_tile}
-use Rattle.accuracy.specs.Laws.Coordinates.{contours_of_on_tile}
+use Rattle.accuracy.proofs.Laws.Contours.{outline_on_tile}
+use Rattle.accuracy.proofs.Laws.Coordinates.{contours_of_on_tile}
 use Rattle.rasterize.specs.declared.View.TheVariants.{Alone}
 use Rattle.rasterize.specs.Views.{InView}
-use Rattle.rasterize.specs.Laws.EdgesInView.{in_view_alone}
+use Rattle.rasterize.proofs.Laws.EdgesInView.{in_view_alone}
 use Rattle.tile.specs.declared.Built.{Built}
 use Rattle.tile.specs.Questions.{Question, first_no, depth_of, table_questions, outline_questions}
 use Rattle.tile.specs.Outcomes.{edges_of, placed_refusal, placed_table}
-use Rattle.tile.specs.Refusals.{placed_refusals}
+use Rattle.tile.proofs.Theorems.Refusals.{placed_refusals}
 use Rattle.tile.specs.Faithful.{FaithfulPlaced}
-use Rattle.tile.specs.PlacedOutline.{placed_none_in, placed-faithful}
-use Rattle.tile.specs.Laws.IfDone.{if_done_lem, if_refused}
-use Rattle.tile.specs.Laws.Sides.{side_depth}
-use Rattle.tile.specs.Laws.Accepted.{Accepted, placed-accepted}
-use Rattle.tile.specs.Laws.FirstNo.{first_no-zero}
-use Rattle.tile.specs.Laws.Asking.{first_refused, first_passed}
-use Rattle.tile.specs.Laws.Building.{cleared_fits, cleared_built}
-use Rattle.tile.specs.Laws.CountsSum.{capped_within}
+use Rattle.tile.proofs.Theorems.PlacedOutline.{placed_none_in, placed-faithful}
+use Rattle.tile.proofs.Laws.IfDone.{if_done_lem, if_refused}
+use Rattle.tile.proofs.Laws.Sides.{side_depth}
+use Rattle.tile.proofs.Laws.Accepted.{Accepted, placed-accepted}
+use Rattle.tile.proofs.Laws.FirstNo.{first_no-zero}
+use Rattle.tile.proofs.Laws.Asking.{first_refused, first_passed}
+use Rattle.tile.proofs.Laws.Building.{cleared_fits, cleared_built}
+use Rattle.tile.proofs.Laws.CountsSum.{capped_within}
 use Rattle.tile.proofs.build_placed.Statement.{statement}
 use Rattle.tile.proofs.build_placed.Tie as tie
 

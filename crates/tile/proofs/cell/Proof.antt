@@ -2,12 +2,12 @@
 use mathlib.Core.Path.{◌≡◌, refl, sym, ◌∙◌, ap₂}
 use Prim.Native.Nat.{ℕ}
 use lib.IntN.{ℤ, pos}
-use Rattle.integers.specs.Bits.{result_is}
+use Rattle.integers.proofs.Theorems.Bits.{result_is}
 use borrow.Author.Rules.{rules}
 use Rattle.tile.specs.declared.CellFigure.{CellFigure}
 use Rattle.tile.specs.Outcomes.{cell_refusal}
-use Rattle.tile.specs.Laws.IfDone.{if_done_lem, if_refused}
-use Rattle.tile.specs.Laws.Answers.{drawable-cell}
+use Rattle.tile.proofs.Laws.IfDone.{if_done_lem, if_refused}
+use Rattle.tile.proofs.Laws.Answers.{drawable-cell}
 use Rattle.tile.proofs.cell.Statement.{statement}
 use Rattle.tile.proofs.cell.Tie as tie
 

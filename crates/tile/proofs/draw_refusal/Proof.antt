@@ -5,7 +5,7 @@ use borrow.Author.Rules.{rules}
 use borrow.Author.Tests.{not-true, not-false}
 use Rattle.tile.specs.Questions.{Question, question8, question9}
 use Rattle.tile.specs.Inner.{level_questions}
-use Rattle.tile.specs.Laws.Asking.{After, refused, passed}
+use Rattle.tile.proofs.Laws.Asking.{After, refused, passed}
 use Rattle.tile.proofs.LevelFirst.{level_refused, level_passed, level_shallow}
 use Rattle.tile.proofs.draw_refusal.Statement.{statement}
 use Rattle.tile.proofs.draw_refusal.Tie as tie

@@ -3,8 +3,8 @@ use mathlib.Core.Path.{◌≡◌, refl, sym, ◌∙◌}
 use lib.ListN.{length}
 use borrow.Author.Rules.{rules}
 use Rattle.tile.specs.Outcomes.{draw_refusal}
-use Rattle.tile.specs.Laws.IfDone.{if_done_lem, if_refused}
-use Rattle.tile.specs.Laws.Answers.{drawable-picture}
+use Rattle.tile.proofs.Laws.IfDone.{if_done_lem, if_refused}
+use Rattle.tile.proofs.Laws.Answers.{drawable-picture}
 use Rattle.tile.proofs.figures.Statement.{statement}
 use Rattle.tile.proofs.figures.Tie as tie
 

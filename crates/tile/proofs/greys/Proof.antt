@@ -9,10 +9,10 @@ use Rattle.haar.specs.Greys.{grey_of}
 use Rattle.haar.specs.Plane.{picture_in}
 use Rattle.tile.specs.Questions.{question1}
 use Rattle.tile.specs.Outcomes.{draw_refusal}
-use Rattle.tile.specs.Refusals.{drawing_refusals}
-use Rattle.tile.specs.Laws.Sides.{side_power, side_depth}
-use Rattle.tile.specs.Laws.IfDone.{if_done_lem, if_refused}
-use Rattle.tile.specs.Laws.Answers.{drawable-picture}
+use Rattle.tile.proofs.Theorems.Refusals.{drawing_refusals}
+use Rattle.tile.proofs.Laws.Sides.{side_power, side_depth}
+use Rattle.tile.proofs.Laws.IfDone.{if_done_lem, if_refused}
+use Rattle.tile.proofs.Laws.Answers.{drawable-picture}
 use Rattle.tile.proofs.greys.Statement.{statement}
 use Rattle.tile.proofs.greys.Tie as tie
 

@@ -6,7 +6,7 @@ use lib.Dec.{eqb}
 use lib.Pow.{pow_mono}
 use borrow.Author.Rules.{rules}
 use Rattle.integers.specs.Units.{greatest_side}
-use Rattle.haar.specs.Laws.Cells.{level_square}
+use Rattle.haar.proofs.Laws.Cells.{level_square}
 use Rattle.tile.proofs.Square.{square_le}
 use Rattle.tile.proofs.is_picture.Statement.{statement}
 use Rattle.tile.proofs.is_picture.Tie as tie

@@ -8,9 +8,10 @@ use lib.Count.{ones, ones_in}
 use lib.Dec.{eqb}
 use borrow.Author.Tests.{le-leb, lt-leb, eq-eqb, ne_eqb}
 use Rattle.integers.specs.Units.{greatest_side}
-use Rattle.integers.specs.Below.{all_below, below}
+use Rattle.integers.specs.Below.{all_below}
+use Rattle.integers.proofs.Theorems.Below.{below}
 use Rattle.tile.specs.Questions.{question1}
-use Rattle.tile.specs.Laws.Sides.{side_le}
+use Rattle.tile.proofs.Laws.Sides.{side_le}
 use Rattle.tile.proofs.is_side.Statement.{statement}
 use Rattle.tile.proofs.is_side.Tie as tie
 

@@ -10,13 +10,13 @@ use mir.Facts.{to_z_pos}
 use borrow.Author.Rules.{rules}
 use borrow.Author.Tests.{le-leb, lt-leb, eq-eqb, ne_eqb}
 use Rattle.integers.specs.Units.{steps_per_pixel, most_edges}
-use Rattle.integers.specs.Machine.{known}
+use Rattle.integers.proofs.Theorems.Machine.{known}
 use Rattle.accuracy.specs.Outline.{edge_count}
 use Rattle.integers.specs.Tests.{every, between}
 use Rattle.placement.specs.Placed.{placed}
 use Rattle.tile.specs.Questions.{Question, question6, outline_questions}
-use Rattle.tile.specs.Laws.Asking.{After, none_asked, no_at, yes_at, refused, passed}
-use Rattle.tile.specs.Laws.CountsSum.{edges_within, capped_le, capped_most, capped_within}
+use Rattle.tile.proofs.Laws.Asking.{After, none_asked, no_at, yes_at, refused, passed}
+use Rattle.tile.proofs.Laws.CountsSum.{edges_within, capped_le, capped_most, capped_within}
 use Rattle.tile.proofs.outline_refusal.Statement.{statement}
 use Rattle.tile.proofs.outline_refusal.Tie as tie
 

@@ -8,11 +8,11 @@ use Rattle.haar.specs.Greys.{grey_of}
 use Rattle.haar.specs.Pyramid.{pyramid_in, DrawablePyramid}
 use Rattle.tile.specs.Questions.{question1}
 use Rattle.tile.specs.Outcomes.{pyramid_refusal}
-use Rattle.tile.specs.Refusals.{pyramid_refusals}
-use Rattle.tile.specs.AllLevels.{level_by_level}
-use Rattle.tile.specs.Laws.Sides.{side_power}
-use Rattle.tile.specs.Laws.IfDone.{if_done_lem, if_refused}
-use Rattle.tile.specs.Laws.Answers.{drawable-pyramid}
+use Rattle.tile.proofs.Theorems.Refusals.{pyramid_refusals}
+use Rattle.tile.proofs.Theorems.AllLevels.{level_by_level}
+use Rattle.tile.proofs.Laws.Sides.{side_power}
+use Rattle.tile.proofs.Laws.IfDone.{if_done_lem, if_refused}
+use Rattle.tile.proofs.Laws.Answers.{drawable-pyramid}
 use Rattle.tile.proofs.pyramid.Statement.{statement}
 use Rattle.tile.proofs.pyramid.Tie as tie
 

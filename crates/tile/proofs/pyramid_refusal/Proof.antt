@@ -5,9 +5,9 @@ use borrow.Author.Rules.{rules}
 use borrow.Author.Tests.{not-true, not-false}
 use Rattle.integers.specs.ListSum.{All}
 use Rattle.tile.specs.Questions.{Question, Yes, question8_all, question9, table_questions}
-use Rattle.tile.specs.Laws.Sides.{side_depth}
-use Rattle.tile.specs.Laws.FirstNo.{first_no-zero}
-use Rattle.tile.specs.Laws.Asking.{After, first_refused, first_passed, refused, passed}
+use Rattle.tile.proofs.Laws.Sides.{side_depth}
+use Rattle.tile.proofs.Laws.FirstNo.{first_no-zero}
+use Rattle.tile.proofs.Laws.Asking.{After, first_refused, first_passed, refused, passed}
 use Rattle.tile.proofs.pyramid_refusal.Statement.{statement}
 use Rattle.tile.proofs.pyramid_refusal.Tie as tie
 

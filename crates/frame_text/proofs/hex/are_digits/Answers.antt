@@ -1,8 +1,8 @@
 -- A byte that is a digit leaves what is after it to decide.
 use Rattle.std.proofs.Common.{get_or, ◌∙◌, arith, lt-ltb}
-use Rattle.integers.specs.Every.{every_next}
+use Rattle.integers.proofs.Theorems.Every.{every_next}
 use Rattle.frame_text.specs.Digits.{digit_value, is_digit}
-use Rattle.frame_text.specs.Laws.Digits.{digit_value_le}
+use Rattle.frame_text.proofs.Laws.Digits.{digit_value_le}
 use Rattle.frame_text.proofs.hex.are_digits.Goals as goal
 
 pub loop-i-preserved : goal.loop-i-preserved

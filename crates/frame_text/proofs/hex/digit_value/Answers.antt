@@ -1,7 +1,8 @@
 -- The code goes by ranges of bytes: one computed test says that they give the digits' places.
 use Rattle.std.proofs.Common.{◌≡◌, ℕ, ◌+◌, ◌-◌, ◌<◌, cond, eqb, ltb, leb, refl, ◌∙◌, arith, le-ltb, lt-ltb, eqb-true, le-leb}
 use borrow.Author.Tests.{lt-leb}
-use Rattle.integers.specs.Below.{all_below, below}
+use Rattle.integers.specs.Below.{all_below}
+use Rattle.integers.proofs.Theorems.Below.{below}
 use Rattle.frame_text.specs.Digits.{index_of, digit_value}
 use Rattle.frame_text.proofs.hex.digit_value.Goals as goal
 

@@ -2,7 +2,7 @@
 use Rattle.std.proofs.Common.{◌≡◌, ℕ, suc, ◌-◌, ◌/◌, ◌%◌, ◌<◌, List, [], ◌∷◌, ◌++◌, length, drop, set, sym, ap, ◌∙◌, ap₂, append_assoc, arith, length-set, drop-cons, get_or-set_same, drop-set-lt, lt-length-set}
 use Rattle.frame_text.specs.Digits.{digit_char, hex}
 use Rattle.frame_text.specs.Over.{over}
-use Rattle.frame_text.specs.Laws.Digits.{hex-length}
+use Rattle.frame_text.proofs.Laws.Digits.{hex-length}
 use Rattle.frame_text.proofs.hex.put_hex.Goals as goal
 
 -- a digit is written: the others go before it

@@ -2,7 +2,7 @@
 use Rattle.std.proofs.Common.{◌≡◌, ℕ, ◌+◌, ◌*◌, ◌^◌, ◌≤◌, get_or, drop, sym, ap, ◌∙◌, ap₂, add-one, arith, drop_of_length-le, drop-cons}
 use Rattle.std.proofs.Math.Nat.{pow-succ', pow-le-pow_right}
 use Rattle.frame_text.specs.Digits.{value_from}
-use Rattle.frame_text.specs.Laws.Digits.{digit_value_le}
+use Rattle.frame_text.proofs.Laws.Digits.{digit_value_le}
 use Rattle.frame_text.proofs.hex.value_of.Goals as goal
 
 few : (i : ℕ) → i ≤ 4 → 17 ^ i ≤ 17 ^ 4

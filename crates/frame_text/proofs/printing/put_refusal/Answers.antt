@@ -4,7 +4,7 @@ use Rattle.frame_text.specs.Over.{over}
 use Rattle.frame_text.specs.Digits.{digit_char}
 use Rattle.frame_text.specs.Lines.{newline}
 use Rattle.frame_text.specs.OutputLines.{refused_word, refusal_text}
-use Rattle.frame_text.specs.Laws.Over.{written, written_length, over_entry, over_end}
+use Rattle.frame_text.proofs.Laws.Over.{written, written_length, over_entry, over_end}
 use Rattle.frame_text.proofs.printing.put_refusal.Goals as goal
 
 refusal-written : (number : ℕ) (out word : List ℕ) → 11 ≤ length out → word ≡ over refused_word out → {tens units : ℕ} → tens ≡ digit_char (number / 10) → units ≡ digit_char (number % 10)

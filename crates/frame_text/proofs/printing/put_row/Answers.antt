@@ -3,9 +3,9 @@ use Rattle.std.proofs.Common.{◌≡◌, ℕ, ◌+◌, ◌*◌, ◌<◌, List, [
 use Rattle.frame_text.specs.Digits.{hex}
 use Rattle.frame_text.specs.Lines.{newline, line_text}
 use Rattle.frame_text.specs.OutputLines.{grey_width}
-use Rattle.frame_text.specs.Laws.Digits.{hex-length}
-use Rattle.frame_text.specs.Laws.Over.{over_at, written, written_length, set-over}
-use Rattle.frame_text.specs.Laws.Parts.{part_over}
+use Rattle.frame_text.proofs.Laws.Digits.{hex-length}
+use Rattle.frame_text.proofs.Laws.Over.{over_at, written, written_length, set-over}
+use Rattle.frame_text.proofs.Laws.Parts.{part_over}
 use Rattle.frame_text.proofs.printing.put_row.Goals as goal
 
 -- the digits of the next grey are written

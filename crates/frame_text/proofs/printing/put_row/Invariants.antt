@@ -3,7 +3,7 @@ use Rattle.std.proofs.Common.{◌≡◌, ◌*◌, length, drop}
 use Rattle.frame_text.specs.Over.{over}
 use Rattle.frame_text.specs.Lines.{line_text}
 use Rattle.frame_text.specs.OutputLines.{grey_width}
-use Rattle.frame_text.specs.Laws.Over.{over_at}
+use Rattle.frame_text.proofs.Laws.Over.{over_at}
 use Rattle.frame_text.proofs.printing.put_row.Given as goal
 
 abbrev pub invariant-loop-i : goal.invariant-loop-i

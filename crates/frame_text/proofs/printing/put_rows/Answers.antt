@@ -3,9 +3,9 @@ use Rattle.std.proofs.Common.{◌≡◌, ℕ, suc, ◌+◌, ◌-◌, ◌*◌, �
 use Rattle.frame_text.specs.Over.{over}
 use Rattle.frame_text.specs.Lines.{line_text}
 use Rattle.frame_text.specs.OutputLines.{grey_width, rows_text}
-use Rattle.frame_text.specs.Laws.Over.{over_at, written, written_length, over_end}
-use Rattle.frame_text.specs.Laws.Printing.{rows_next, row-length}
-use Rattle.frame_text.specs.Laws.Parts.{part_over}
+use Rattle.frame_text.proofs.Laws.Over.{over_at, written, written_length, over_end}
+use Rattle.frame_text.proofs.Laws.Printing.{rows_next, row-length}
+use Rattle.frame_text.proofs.Laws.Parts.{part_over}
 use Rattle.frame_text.proofs.printing.put_rows.Invariants.{RowsLeft}
 use Rattle.frame_text.proofs.printing.put_rows.Goals as goal
 

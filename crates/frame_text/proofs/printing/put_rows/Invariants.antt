@@ -2,7 +2,7 @@
 use Rattle.std.proofs.Common.{◌≡◌, ℕ, ◌+◌, ◌-◌, ◌*◌, ◌≤◌, List, length, drop}
 use Rattle.frame_text.specs.Over.{over}
 use Rattle.frame_text.specs.OutputLines.{rows_text}
-use Rattle.frame_text.specs.Laws.Over.{over_at}
+use Rattle.frame_text.proofs.Laws.Over.{over_at}
 use Rattle.frame_text.proofs.printing.put_rows.Given as goal
 
 -- y rows are written, up to a place of the list, from so many greys

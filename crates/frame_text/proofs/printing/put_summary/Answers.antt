@@ -5,9 +5,9 @@ use Rattle.frame_text.specs.Over.{over}
 use Rattle.frame_text.specs.Digits.{hex, twos_complement}
 use Rattle.frame_text.specs.Lines.{newline}
 use Rattle.frame_text.specs.OutputLines.{summary_text}
-use Rattle.frame_text.specs.Laws.Digits.{hex-length}
-use Rattle.frame_text.specs.Laws.Over.{over_at, written, written_length, over_entry, over_end}
-use Rattle.frame_text.specs.Laws.Parts.{part_over}
+use Rattle.frame_text.proofs.Laws.Digits.{hex-length}
+use Rattle.frame_text.proofs.Laws.Over.{over_at, written, written_length, over_entry, over_end}
+use Rattle.frame_text.proofs.Laws.Parts.{part_over}
 use Rattle.frame_text.proofs.printing.put_summary.Goals as goal
 
 summary-written : (edges : ℕ) (root : ℤ) (out counted part : List ℕ) → 21 ≤ length out → counted ≡ over (hex 4 edges) out

@@ -3,8 +3,8 @@ use Rattle.std.proofs.Common.{◌≡◌, ℕ, suc, ◌+◌, ◌-◌, ◌<◌, �
 use Rattle.frame_text.specs.Lines.{lines, closes}
 use Rattle.frame_text.specs.Reading.{is_contour}
 use Rattle.frame_text.specs.Inner.{line_length, is_body}
-use Rattle.frame_text.specs.Laws.Lines.{line_length-le, body_cut, body_open}
-use Rattle.frame_text.specs.Laws.Parts.{part_is}
+use Rattle.frame_text.proofs.Laws.Lines.{line_length-le, body_cut, body_open}
+use Rattle.frame_text.proofs.Laws.Parts.{part_is}
 use Rattle.frame_text.proofs.reading.are_contours.Goals as goal
 
 -- the next line, n bytes long

@@ -3,8 +3,8 @@ use Rattle.std.proofs.Common.{◌≡◌, ℕ, suc, ◌+◌, ◌<◌, ◌≤◌, 
 use Rattle.integers.specs.Units.{text_limit}
 use Rattle.frame_text.specs.Reading.{is_head, is_frame}
 use Rattle.frame_text.specs.Inner.{line_length, is_body}
-use Rattle.frame_text.specs.Laws.Lines.{line_length-le, frame-cut, frame_open}
-use Rattle.frame_text.specs.Laws.Parts.{part_is}
+use Rattle.frame_text.proofs.Laws.Lines.{line_length-le, frame-cut, frame_open}
+use Rattle.frame_text.proofs.Laws.Parts.{part_is}
 use Rattle.frame_text.proofs.reading.is_frame.Goals as goal
 
 -- the first line, n bytes long

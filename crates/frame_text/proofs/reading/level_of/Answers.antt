@@ -2,7 +2,7 @@
 use Rattle.std.proofs.Common.{◌≡◌, ℕ, List, [], ◌∷◌, take, drop, sym, refl, ap, ◌∙◌, arith}
 use Rattle.frame_text.specs.Digits.{hex_value}
 use Rattle.frame_text.specs.Reading.{first_line}
-use Rattle.frame_text.specs.Laws.Reading.{framed}
+use Rattle.frame_text.proofs.Laws.Reading.{framed}
 use Rattle.frame_text.proofs.reading.level_of.Goals as goal
 
 pub slice_bounds-value_of-end : goal.slice_bounds-value_of-end

@@ -3,7 +3,7 @@ use Rattle.std.proofs.Common.{◌≡◌, ℕ, ◌+◌, ◌-◌, ◌<◌, List, l
 use Rattle.frame_text.specs.Over.{over}
 use Rattle.frame_text.specs.Reading.{coordinates}
 use Rattle.frame_text.specs.Inner.{line_length}
-use Rattle.frame_text.specs.Laws.Parts.{part_is, part_over}
+use Rattle.frame_text.proofs.Laws.Parts.{part_is, part_over}
 use Rattle.frame_text.proofs.ContourLines.{LinesRead, NextLine, next_line, lines_step, all_points, all_counts, whole_size}
 use Rattle.frame_text.proofs.reading.read_contours.Goals as goal
 

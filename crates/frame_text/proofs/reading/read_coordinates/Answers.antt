@@ -3,8 +3,8 @@ use Rattle.std.proofs.Common.{◌≡◌, ℕ, ◌+◌, ◌-◌, ◌*◌, ◌≤�
 use Rattle.std.proofs.lemmas.Int.{to_z_pos}
 use Rattle.frame_text.specs.Digits.{hex_value}
 use Rattle.frame_text.specs.Reading.{coordinates}
-use Rattle.frame_text.specs.Laws.Over.{over_at, over_entry, over_end}
-use Rattle.frame_text.specs.Laws.Reading.{coordinates_next, coordinates_none}
+use Rattle.frame_text.proofs.Laws.Over.{over_at, over_entry, over_end}
+use Rattle.frame_text.proofs.Laws.Reading.{coordinates_next, coordinates_none}
 use Rattle.frame_text.proofs.reading.read_coordinates.Goals as goal
 
 next : (line : List ℕ) (i : ℕ) → 4 * i + 4 ≤ length line

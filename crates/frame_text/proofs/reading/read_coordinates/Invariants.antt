@@ -2,7 +2,7 @@
 use Rattle.std.proofs.Common.{◌≡◌, ◌*◌, length, drop}
 use Rattle.frame_text.specs.Over.{over}
 use Rattle.frame_text.specs.Reading.{coordinates}
-use Rattle.frame_text.specs.Laws.Over.{over_at}
+use Rattle.frame_text.proofs.Laws.Over.{over_at}
 use Rattle.frame_text.proofs.reading.read_coordinates.Given as goal
 
 abbrev pub invariant-loop-i : goal.invariant-loop-i

@@ -2,7 +2,7 @@
 use Rattle.std.proofs.Common.{take, sym, ap, ◌∙◌, arith, length-take-le, take-take}
 use Rattle.frame_text.specs.Digits.{hex_value}
 use Rattle.frame_text.specs.Reading.{first_line}
-use Rattle.frame_text.specs.Laws.Reading.{framed}
+use Rattle.frame_text.proofs.Laws.Reading.{framed}
 use Rattle.frame_text.proofs.reading.side_of.Goals as goal
 
 pub slice_bounds-value_of-end : goal.slice_bounds-value_of-end

@@ -1,8 +1,8 @@
 -- A magnitude from the full figure on has the full grey, and one below it is itself.
 use Rattle.std.proofs.Common.{sym, ◌∙◌, ap, nat_abs, arith, to_z-of_z}
-use Rattle.integers.specs.Order.{pos-≤ℤ}
-use Rattle.haar.specs.Laws.InkGreys.{ink_full}
-use Rattle.haar.specs.Laws.Greys.{grey-full, grey-magnitude}
+use Rattle.integers.proofs.Theorems.Order.{pos-≤ℤ}
+use Rattle.haar.proofs.Laws.InkGreys.{ink_full}
+use Rattle.haar.proofs.Laws.Greys.{grey-full, grey-magnitude}
 use Rattle.haar.proofs.grey.held.Goals as goal
 
 pub returns-then-full-ink : goal.returns-then-full-ink

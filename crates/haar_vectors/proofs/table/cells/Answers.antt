@@ -3,7 +3,7 @@ use Rattle.std.proofs.Common.{◌∙◌, ap, ◌*◌, ◌^◌, arith}
 use native.Mathlib.Nat.{one-mul, two-mul}
 use lib.Dec.{lit<}
 use lib.Pow.{shl_exact, pow-add}
-use Rattle.haar.specs.Laws.Cells.{level_square}
+use Rattle.haar.proofs.Laws.Cells.{level_square}
 use Rattle.haar_vectors.proofs.table.cells.Goals as goal
 
 pub returns : goal.returns

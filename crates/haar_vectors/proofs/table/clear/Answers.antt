@@ -1,7 +1,7 @@
 -- A nought that is stored is in range.
 use Rattle.std.proofs.Common.{arith}
 use Rattle.integers.specs.Units.{entry_limit}
-use Rattle.integers.specs.Within.{within_zero}
+use Rattle.integers.proofs.Theorems.Within.{within_zero}
 use Rattle.haar_vectors.proofs.Tables.{entries-set}
 use Rattle.haar_vectors.proofs.table.clear.Goals as goal
 

@@ -1,0 +1,18 @@
+-- Laws of what specs/Tile.antt defines; whose head lists the main results.
+use Rattle.std.specs.Prelude.{◌≡◌, List, ℕ, ◌*◌, ◌-◌, ◌^◌, ◌<◌, ◌≤◌, pos, ◌≤ℤ◌}
+use Rattle.std.proofs.Common.{◌∙◌, ap, arith}
+use Rattle.integers.specs.Units.{steps_per_pixel}
+use Rattle.integers.specs.ListSum.{All}
+use Rattle.edge.specs.declared.Edge.{Edge}
+use Rattle.edge.specs.declared.Cell.{Cell as Square}
+use Rattle.haar.specs.Cells.{Cell}
+use Rattle.haar.specs.Greys.{full}
+use Rattle.haar.specs.Plane.{dimensions}
+use Rattle.accuracy.specs.Outline.{Point, ClosedEdges}
+use Rattle.accuracy.specs.Tile.{cell_width}
+
+-- A check: the tile's area in units, two to a square step, is the figure of a tile that is all ink, by which greys are measured.
+full-tile : (depth : ℕ) → full (2 ^ depth) ≡ 2 * (cell_width depth 0 * cell_width depth 0)
+full-tile depth =
+    let whole : depth ≡ depth - 0 = omega arith in
+    ap (λ k. full (2 ^ k)) whole ∙ omega arith
