@@ -22,6 +22,7 @@ pub mod Closeness
 pub mod Roots
 -- and how far two greys are apart
 pub mod CloseGreys
+pub mod MostEdges
 -- the table: how large its entries are, that the order of edges does not matter, and that an outline walked the other way has the opposite one
 pub mod EntryBounds
 pub mod Order

@@ -24,8 +24,10 @@ pub mod Entries
 -- totals of a level
 pub mod CellSums
 pub mod Totals
+pub mod PictureTotals
 -- greys: 01's rule, and that of a magnitude
 pub mod InkGreys
+pub mod CloseInkGreys
 pub mod Greys
 -- a table with every sign turned
 pub mod Opposite

@@ -14,11 +14,7 @@ use Rattle.integers.proofs.Theorems.Within.{bounds, within_is, within_scale}
 use Rattle.haar.specs.Greys.{grey, grey_of, OneApart}
 use Rattle.haar.proofs.Laws.Cells.{level_square}
 use Rattle.haar.proofs.Laws.Greys.{greys_one_apart}
-
--- The one comparison of constants: 255 × 1,024 = 261,120 is at most 2 × 131,072 = 262,144. An edge makes a figure miss by less than 4^level / 2, and
--- a grey is a 255th of 131,072 × 4^depth, so the misses of `most_edges` edges come to less than one grey.
-most_edges_within_grey : full_grey * most_edges ≤ 2 * units_per_pixel
-most_edges_within_grey = omega arith
+use Rattle.accuracy.proofs.Laws.MostEdges.{most_edges_within_grey}
 
 -- |x| ≤ p n / 2 gives g |x| ≤ u q, where p ≤ q, n ≤ m and g m ≤ 2 u. Here x has the denominator den.
 scaled_miss_within : (g u den : ℕ) (x : ℤ) {m n p q : ℕ} → g * m ≤ 2 * u → n ≤ m → p ≤ q → Within (pos (p * n * den)) (pos 2 *ℤ x)

@@ -20,7 +20,7 @@ use Rattle.edge.specs.Octilinear.{Octilinear}
 use Rattle.edge.specs.Nested.{OnCell}
 use Rattle.haar.specs.Table.{Bounded}
 use Rattle.haar.specs.Plane.{dimensions, at, figure_at}
-use Rattle.haar.proofs.Laws.Totals.{picture-total}
+use Rattle.haar.proofs.Laws.PictureTotals.{picture-total}
 use Rattle.accuracy.specs.Outline.{Point, signed_area, ClosedEdges}
 use Rattle.accuracy.specs.Tile.{tile, OnTile, ClosedOnTile, CellOf}
 use Rattle.accuracy.specs.ExactArea.{denominator, exact_area_num}

@@ -22,7 +22,8 @@ use Rattle.integers.specs.Within.{Within}
 use Rattle.integers.proofs.Theorems.Within.{within_is, within_abs}
 use Rattle.integers.specs.RoundHalfUp.{UpBounds}
 use Rattle.haar.specs.Greys.{full, ink_grey, grey, grey_of, OneApart}
-use Rattle.haar.proofs.Laws.InkGreys.{ink_byte, ink_one_apart, ink_nearest, ink_half, ink_full}
+use Rattle.haar.proofs.Laws.InkGreys.{ink_byte, ink_nearest, ink_half, ink_full}
+use Rattle.haar.proofs.Laws.CloseInkGreys.{ink_one_apart}
 
 pub grey-neg : (side : ℕ) (num : ℤ) (den : ℕ) → grey side (neg_ℤ num) den ≡ grey side num den
 unfolding grey

@@ -4,7 +4,7 @@
 -- Main results
 --   full-pos                     a tile's full figure is above 0
 --   ink_clamp, ink_byte          a grey is the rounded fraction, held; it is at most 255
---   ink_one_apart                fractions at most a 255th of the full figure apart have greys at most one apart
+--   one_up                       a fraction at most a 255th of the full figure above another has a grey at most one above (both ways: CloseInkGreys)
 --   ink_nearest                  from 0 to the full figure it is how many 255ths of it the fraction is, to the nearest whole number, halves up
 --   ink_half                     n and a half 255ths of the full figure have the grey n + 1, up to 255
 --   ink_full                     the full figure or more has the full grey
@@ -56,7 +56,7 @@ module _ {side : ℕ} (s : 0 < side) (a b : ℤ) {d e : ℕ} (g : 0 < d) (h : 0 
       ≤_of_pos (subst₂ ◌≤ℤ◌ (sym (ink_clamp side a d)) (sym (ink_clamp side b e)) (clamp-mono (pos 0) (pos full_grey) i))
 
   -- 255 × (a / d − b / e) ≤ full
-  one_up : (pos full_grey *ℤ (a *ℤ pos e -ℤ b *ℤ pos d)) ≤ℤ pos (full side * (d * e)) → ink_grey side a d ≤ ink_grey side b e + 1
+  pub one_up : (pos full_grey *ℤ (a *ℤ pos e -ℤ b *ℤ pos d)) ≤ℤ pos (full side * (d * e)) → ink_grey side a d ≤ ink_grey side b e + 1
   one_up k =
       let i : rounded side a d ≤ℤ (rounded side b e +ℤ pos 1) =
       round_half_up_one_apart (pos full_grey *ℤ a) (pos full_grey *ℤ b) (mul-pos (full-pos s) g) (mul-pos (full-pos s) h)
@@ -68,14 +68,6 @@ module _ {side : ℕ} (s : 0 < side) (a b : ℤ) {d e : ℕ} (g : 0 < d) (h : 0 
       let m : Within (pos 1) (y' -ℤ y) = clamp_moves (pos 0) (pos full_grey) (rounded side b e) (pos 1) (within_self (nonneg 1)) in
       ≤_of_pos (lin≤ (x ∷ y ∷ y' ∷ pos (ink_grey side a d) ∷ pos (ink_grey side b e) ∷ [])
       (le j & bounds m & eq (ink_clamp side a d) & eq (ink_clamp side b e)) (search linear depth 40) tt)
-
--- 255 × |a / d − b / e| ≤ full
-pub ink_one_apart : {side : ℕ} → 0 < side → (a b : ℤ) {d e : ℕ} → 0 < d → 0 < e
-    → Within (pos (full side * (d * e))) (pos full_grey *ℤ (a *ℤ pos e -ℤ b *ℤ pos d)) → OneApart (ink_grey side a d) (ink_grey side b e)
-ink_one_apart {side} s a b {d} {e} g h w = record {
-  up = one_up s a b g h w.high;
-  down = one_up s b a h g (lin≤ (a ∷ b ∷ pos d ∷ pos e ∷ pos side ∷ []) (le w.low) (search linear depth 40) tt);
-}
 
 -- ---- the nearest: where nothing is held
 pub ink_nearest : {side den : ℕ} {num : ℤ} → 0 < side → 0 < den → pos 0 ≤ℤ num → num ≤ℤ pos (full side * den)

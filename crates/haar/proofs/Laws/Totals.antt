@@ -3,7 +3,6 @@
 -- Main results
 --   children-total               the figures of a cell's children add up to as many times the cell's own
 --   figures_total                the figures of a level add up to the root times the number of its cells
---   picture-total                the same of the figures in a picture
 use Rattle.std.specs.Prelude.{◌≡◌, refl, [], ◌∷◌, ℕ, zero, suc, ◌^◌, ◌<◌, ℤ, pos, negsuc, ◌+ℤ◌, ◌*ℤ◌}
 use Rattle.std.proofs.Common.{sym, ◌∙◌, ap, ap₂, arith}
 use Rattle.std.proofs.Math.Path.{fun_ext}
@@ -60,15 +59,3 @@ figures_total n t (suc j) =
     ∙ Σcells_scale n (2 ^ j) (pos (children n)) (figure n t j)
     ∙ comb (Σcells n (2 ^ j) (figure n t j) ∷ pos (children n) ∷ pos (children n ^ j) ∷ pos (children n ^ suc j) ∷ t.root ∷ [])
     (pos (children n) ⊗ figures_total n t j ⊕ (negsuc 0 *ℤ t.root) ⊗ ap pos (pow-succ' (children n) j)) (search read depth 40) tt
-
--- ---- a picture
-total-tabulate : {A : Type 0} (f : A → ℤ) (m : ℕ) (g : ℕ → A) → total f (tabulate m g) ≡ Σ< m (λ i. f (g i))
-unfolding total tabulate Σ<
-total-tabulate f zero g = refl
-total-tabulate f (suc m) g = ap (λ z. f (g 0) +ℤ z) (total-tabulate f m (λ i. g (suc i))) ∙ sym (Σ_first m (λ i. f (g i)))
-
-pub picture-total : (n : ℕ) (t : Coefficients n) (level : ℕ) → total (λ z. z) (picture n (λ z. z) t level) ≡ pos (children n ^ level) *ℤ t.root
-picture-total n t level =
-    total-tabulate (λ z. z) (children n ^ level) (λ i. figure n t level (cell_at n (2 ^ level) i))
-    ∙ ap (λ k. Σ< k (λ i. figure n t level (cell_at n (2 ^ level) i))) (sym (level_cells n level))
-    ∙ Σ-cell_at n (2 ^ level) (figure n t level) ∙ figures_total n t level

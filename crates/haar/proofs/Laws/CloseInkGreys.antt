@@ -1,0 +1,26 @@
+-- By 01's rule: fractions at most a 255th of the full figure apart have greys at most one apart.
+use Rattle.std.specs.Prelude.{◌≡◌, [], ◌∷◌, ℕ, ◌+◌, ◌*◌, ◌<◌, ◌≤◌, ℤ, pos, nat_abs, ◌+ℤ◌, ◌-ℤ◌, ◌*ℤ◌, ◌≤ℤ◌}
+use Rattle.std.proofs.Common.{sym, ◌∙◌, ap, subst, subst₂, arith, mul-pos}
+use Rattle.std.proofs.Math.Path.{subst⁻¹}
+use Rattle.std.specs.Int.Signed.{yes_non_neg, pos-nat_abs}
+use Rattle.integers.specs.Units.{full_grey}
+use Rattle.integers.proofs.Theorems.Ring.{read, ring}
+use Rattle.integers.proofs.Theorems.Order.{≤ℤ-mul, ≤ℤ_scale, pos-≤ℤ, ≤_of_pos, nonneg}
+use Rattle.integers.proofs.Theorems.Linear.{le, eq, ◌&◌, linear, lin≤, lin<}
+use Rattle.integers.specs.Within.{Within}
+use Rattle.integers.proofs.Theorems.Within.{bounds, within_self}
+use Rattle.integers.specs.Clamp.{clamp}
+use Rattle.integers.proofs.Theorems.Clamp.{clamp_low, clamp_high, clamp-inside, clamp-mono, clamp_moves}
+use Rattle.integers.specs.Rounding.{round_half_up}
+use Rattle.integers.specs.RoundHalfUp.{UpBounds}
+use Rattle.integers.proofs.Theorems.RoundHalfUp.{round_half_up-bounds, round_half_up_of_bounds, round_half_up-mono, round_half_up-mul, round_half_up_one_apart}
+use Rattle.haar.specs.Greys.{full, ink_grey, OneApart}
+use Rattle.haar.proofs.Laws.InkGreys.{one_up}
+
+-- 255 × |a / d − b / e| ≤ full
+pub ink_one_apart : {side : ℕ} → 0 < side → (a b : ℤ) {d e : ℕ} → 0 < d → 0 < e
+    → Within (pos (full side * (d * e))) (pos full_grey *ℤ (a *ℤ pos e -ℤ b *ℤ pos d)) → OneApart (ink_grey side a d) (ink_grey side b e)
+ink_one_apart {side} s a b {d} {e} g h w = record {
+  up = one_up s a b g h w.high;
+  down = one_up s b a h g (lin≤ (a ∷ b ∷ pos d ∷ pos e ∷ pos side ∷ []) (le w.low) (search linear depth 40) tt);
+}
