@@ -7,7 +7,7 @@
 -- and `Holding` of that one, know nothing of the count.
 --
 -- Definitions
---   inRange z                              question 9 of one entry
+--   in_range z                             question 9 of one entry
 --   entries_looked_at table                  how many entries the search looks at (`looked_at` of `integers`, in Search)
 --   LeastOut table i                       i is the least place out of range (`LeastFailing`, there too)
 -- Main results (the laws among them are in proofs/Theorems/EntrySearch.antt)

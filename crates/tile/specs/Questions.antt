@@ -83,7 +83,7 @@ abbrev pub question10 : ℕ → ℕ → ℕ → Question
 question10 level cx cy = record { number = 10; answer = ltb cx (2 ^ level) && ltb cy (2 ^ level) }
 
 -- ---- of 02
--- "A float or a point to be moved outside these rules, an infinity or a not_a_number gives 12": is every float of the placement a multiple of 1/65,536
+-- "A float or a point to be moved outside these rules, an infinity or a not-a-number gives 12": is every float of the placement a multiple of 1/65,536
 -- in its range, and every point that it moves where it may be? With no placement nothing is moved, and nothing is asked.
 abbrev pub question12 : Placement → List ℤ → Question
 question12 placement points = record { number = 12; answer = placeable placement points }

@@ -48,6 +48,7 @@ pub extern "C" fn mattuliyan_build(
     ensures edges_after { edges.new ≡ (build_result side points.now counts.now table.old).edges }
     ensures table_after { table.new ≡ build_table side points.now counts.now table.old }
     ensures faithful { Faithful side points.now counts.now table.old table.new }
+    ensures points_value { (points.now ≡ points.now) × (counts.now ≡ counts.now) }
 {
     let built = tile::build(side, points, counts, table);
     *edges = built.edges;
@@ -95,6 +96,7 @@ pub extern "C" fn mattuliyan_build_placed(
     ensures edges_after { edges.new ≡ (placed_result side points.now counts.now (placement_of placement.now) table.old).edges }
     ensures table_after { table.new ≡ placed_table side points.now counts.now (placement_of placement.now) table.old }
     ensures faithful_placed { FaithfulPlaced side points.now counts.now (placement_of placement.now) table.old table.new }
+    ensures points_value { (points.now ≡ points.now) × (counts.now ≡ counts.now) × (placement.now ≡ placement.now) }
 {
     let placed = tile::build_placed(side, points, counts, placement_of(placement), table);
     *edges = placed.edges;
@@ -115,6 +117,7 @@ pub extern "C" fn mattuliyan_put(
     ensures edges_after { edges.new ≡ (corrected (putting side points.now count (placement_of placement.now)) (tile_of table.old edges.old)).edges }
     ensures table_after { table.new ≡ (corrected (putting side points.now count (placement_of placement.now)) (tile_of table.old edges.old)).table }
     ensures holds_one_more { HoldsOneMore (putting side points.now count (placement_of placement.now)) (tile_of table.old edges.old) (tile_of table.new edges.new) }
+    ensures points_value { (points.now ≡ points.now) × (placement.now ≡ placement.now) }
 {
     corrections::put(side, points, count, placement_of(placement), edges, table)
 }
@@ -133,6 +136,7 @@ pub extern "C" fn mattuliyan_take(
     ensures edges_after { edges.new ≡ (corrected (taking side points.now count (placement_of placement.now)) (tile_of table.old edges.old)).edges }
     ensures table_after { table.new ≡ (corrected (taking side points.now count (placement_of placement.now)) (tile_of table.old edges.old)).table }
     ensures holds_one_less { HoldsOneLess (taking side points.now count (placement_of placement.now)) (tile_of table.old edges.old) (tile_of table.new edges.new) }
+    ensures points_value { (points.now ≡ points.now) × (placement.now ≡ placement.now) }
 {
     corrections::take(side, points, count, placement_of(placement), edges, table)
 }
@@ -166,6 +170,7 @@ pub extern "C" fn mattuliyan_build_on_sheet(
     ensures edges_after { edges.new ≡ (sheet_result (tile_at sheet side column row) points.now counts.now (placement_of placement.now) table.old).edges }
     ensures table_after { table.new ≡ sheet_table (tile_at sheet side column row) points.now counts.now (placement_of placement.now) table.old }
     ensures faithful_on_sheet { FaithfulOnSheet (tile_at sheet side column row) points.now counts.now (placement_of placement.now) table.old table.new }
+    ensures points_value { (points.now ≡ points.now) × (counts.now ≡ counts.now) × (placement.now ≡ placement.now) }
 {
     let place = place_of(sheet, side, column, row);
     let drawn = sheet::build_on_sheet(place, points, counts, placement_of(placement), table);
@@ -190,6 +195,7 @@ pub extern "C" fn mattuliyan_put_on_sheet(
     ensures edges_after { edges.new ≡ (corrected (putting_on (tile_at sheet side column row) points.now count (placement_of placement.now)) (tile_of table.old edges.old)).edges }
     ensures table_after { table.new ≡ (corrected (putting_on (tile_at sheet side column row) points.now count (placement_of placement.now)) (tile_of table.old edges.old)).table }
     ensures holds_one_more { HoldsOneMore (putting_on (tile_at sheet side column row) points.now count (placement_of placement.now)) (tile_of table.old edges.old) (tile_of table.new edges.new) }
+    ensures points_value { (points.now ≡ points.now) × (placement.now ≡ placement.now) }
 {
     let place = place_of(sheet, side, column, row);
     corrections::put_on_sheet(place, points, count, placement_of(placement), edges, table)
@@ -212,6 +218,7 @@ pub extern "C" fn mattuliyan_take_on_sheet(
     ensures edges_after { edges.new ≡ (corrected (taking_on (tile_at sheet side column row) points.now count (placement_of placement.now)) (tile_of table.old edges.old)).edges }
     ensures table_after { table.new ≡ (corrected (taking_on (tile_at sheet side column row) points.now count (placement_of placement.now)) (tile_of table.old edges.old)).table }
     ensures holds_one_less { HoldsOneLess (taking_on (tile_at sheet side column row) points.now count (placement_of placement.now)) (tile_of table.old edges.old) (tile_of table.new edges.new) }
+    ensures points_value { (points.now ≡ points.now) × (placement.now ≡ placement.now) }
 {
     let place = place_of(sheet, side, column, row);
     corrections::take_on_sheet(place, points, count, placement_of(placement), edges, table)
@@ -232,6 +239,7 @@ pub extern "C" fn mattuliyan_build_curves(
     ensures edges_after { edges.new ≡ (curves_result (Alone side) points.now counts.now marks.now (placement_of placement.now) table.old).edges }
     ensures table_after { table.new ≡ curves_table (Alone side) points.now counts.now marks.now (placement_of placement.now) table.old }
     ensures faithful_curves { FaithfulCurves (Alone side) points.now counts.now marks.now (placement_of placement.now) table.old table.new }
+    ensures points_value { (points.now ≡ points.now) × (counts.now ≡ counts.now) × (marks.now ≡ marks.now) × (placement.now ≡ placement.now) }
 {
     let site = Site::Alone(side);
     let moved = placement_of(placement);
@@ -256,6 +264,7 @@ pub extern "C" fn mattuliyan_put_curves(
     ensures table_after { table.new ≡ (corrected_curve (putting_curve (Alone side) points.now count marks.now (placement_of placement.now)) (tile_of table.old edges.old)).table }
     ensures near_contour { NearContour (putting_curve (Alone side) points.now count marks.now (placement_of placement.now)) (tile_of table.old edges.old) }
     ensures holds_one_more_curve { HoldsOneMoreCurve (putting_curve (Alone side) points.now count marks.now (placement_of placement.now)) (tile_of table.old edges.old) (tile_of table.new edges.new) }
+    ensures points_value { (points.now ≡ points.now) × (marks.now ≡ marks.now) × (placement.now ≡ placement.now) }
 {
     let site = Site::Alone(side);
     let moved = placement_of(placement);
@@ -278,6 +287,7 @@ pub extern "C" fn mattuliyan_take_curves(
     ensures table_after { table.new ≡ (corrected_curve (taking_curve (Alone side) points.now count marks.now (placement_of placement.now)) (tile_of table.old edges.old)).table }
     ensures near_contour { NearContour (taking_curve (Alone side) points.now count marks.now (placement_of placement.now)) (tile_of table.old edges.old) }
     ensures holds_one_less_curve { HoldsOneLessCurve (taking_curve (Alone side) points.now count marks.now (placement_of placement.now)) (tile_of table.old edges.old) (tile_of table.new edges.new) }
+    ensures points_value { (points.now ≡ points.now) × (marks.now ≡ marks.now) × (placement.now ≡ placement.now) }
 {
     let site = Site::Alone(side);
     let moved = placement_of(placement);
@@ -302,6 +312,7 @@ pub extern "C" fn mattuliyan_build_curves_on_sheet(
     ensures edges_after { edges.new ≡ (curves_result (OnSheet (tile_at sheet side column row)) points.now counts.now marks.now (placement_of placement.now) table.old).edges }
     ensures table_after { table.new ≡ curves_table (OnSheet (tile_at sheet side column row)) points.now counts.now marks.now (placement_of placement.now) table.old }
     ensures faithful_curves { FaithfulCurves (OnSheet (tile_at sheet side column row)) points.now counts.now marks.now (placement_of placement.now) table.old table.new }
+    ensures points_value { (points.now ≡ points.now) × (counts.now ≡ counts.now) × (marks.now ≡ marks.now) × (placement.now ≡ placement.now) }
 {
     let place = place_of(sheet, side, column, row);
     let there = Site::OnSheet(place);
@@ -330,6 +341,7 @@ pub extern "C" fn mattuliyan_put_curves_on_sheet(
     ensures table_after { table.new ≡ (corrected_curve (putting_curve (OnSheet (tile_at sheet side column row)) points.now count marks.now (placement_of placement.now)) (tile_of table.old edges.old)).table }
     ensures near_contour { NearContour (putting_curve (OnSheet (tile_at sheet side column row)) points.now count marks.now (placement_of placement.now)) (tile_of table.old edges.old) }
     ensures holds_one_more_curve { HoldsOneMoreCurve (putting_curve (OnSheet (tile_at sheet side column row)) points.now count marks.now (placement_of placement.now)) (tile_of table.old edges.old) (tile_of table.new edges.new) }
+    ensures points_value { (points.now ≡ points.now) × (marks.now ≡ marks.now) × (placement.now ≡ placement.now) }
 {
     let place = place_of(sheet, side, column, row);
     let there = Site::OnSheet(place);
@@ -356,6 +368,7 @@ pub extern "C" fn mattuliyan_take_curves_on_sheet(
     ensures table_after { table.new ≡ (corrected_curve (taking_curve (OnSheet (tile_at sheet side column row)) points.now count marks.now (placement_of placement.now)) (tile_of table.old edges.old)).table }
     ensures near_contour { NearContour (taking_curve (OnSheet (tile_at sheet side column row)) points.now count marks.now (placement_of placement.now)) (tile_of table.old edges.old) }
     ensures holds_one_less_curve { HoldsOneLessCurve (taking_curve (OnSheet (tile_at sheet side column row)) points.now count marks.now (placement_of placement.now)) (tile_of table.old edges.old) (tile_of table.new edges.new) }
+    ensures points_value { (points.now ≡ points.now) × (marks.now ≡ marks.now) × (placement.now ≡ placement.now) }
 {
     let place = place_of(sheet, side, column, row);
     let there = Site::OnSheet(place);
@@ -373,6 +386,7 @@ pub extern "C" fn mattuliyan_figures(
 ) -> u32
     ensures value { result ≡ draw_refusal side level table.now (length picture.old) }
     ensures picture_after { picture.new ≡ figures_picture side level table.now picture.old }
+    ensures table_value { table.now ≡ table.now }
 {
     tile::figures(side, level, table, picture)
 }
@@ -382,6 +396,7 @@ pub extern "C" fn mattuliyan_figures(
 pub extern "C" fn mattuliyan_greys(side: u32, level: u32, table: &[i64], picture: &mut [u8]) -> u32
     ensures value { result ≡ draw_refusal side level table.now (length picture.old) }
     ensures picture_after { picture.new ≡ greys_picture side level table.now picture.old }
+    ensures table_value { table.now ≡ table.now }
 {
     tile::greys(side, level, table, picture)
 }
@@ -392,6 +407,7 @@ pub extern "C" fn mattuliyan_pyramid(side: u32, table: &[i64], pictures: &mut [u
     ensures value { result ≡ pyramid_refusal side table.now (length pictures.old) }
     ensures pictures_after { pictures.new ≡ pyramid_pictures side table.now pictures.old }
     ensures level_by_level { LevelByLevel side table.now pictures.old pictures.new }
+    ensures table_value { table.now ≡ table.now }
 {
     tile::pyramid(side, table, pictures)
 }
@@ -408,6 +424,7 @@ pub extern "C" fn mattuliyan_cell(
 ) -> u32
     ensures value { result ≡ (cell_result side level cx cy table.now).number }
     ensures figure_after { figure.new ≡ (cell_result side level cx cy table.now).figure }
+    ensures table_value { table.now ≡ table.now }
 {
     let answer = tile::cell(side, level, cx, cy, table);
     let drawn = answer.figure; // copied first, as the proof's walk asks

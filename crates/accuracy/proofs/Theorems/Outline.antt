@@ -1,4 +1,4 @@
--- Laws of what specs/Outline.antt defines; whose head lists the main results.
+-- Laws of what specs/Outline.antt defines. The head of that file lists the main results.
 use Rattle.std.specs.Prelude.{◌≡◌, List, [], ◌∷◌, ◌++◌, ℕ, ◌+◌, ◌*◌, get_or, take, drop, ℤ, pos, ◌-ℤ◌, ◌*ℤ◌}
 use Rattle.integers.proofs.Theorems.Ring.{read, ring}
 use Rattle.integers.specs.ListSum.{total, tally}

@@ -1,4 +1,4 @@
--- Laws of what specs/OutlineTable.antt defines; whose head lists the main results.
+-- Laws of what specs/OutlineTable.antt defines. The head of that file lists the main results.
 use Rattle.std.specs.Prelude.{◌≡◌, refl, List, [], ◌∷◌, ℕ, ℤ, pos}
 use Rattle.integers.specs.MinMax.{min, max}
 use Rattle.integers.specs.Clamp.{clamp}

@@ -1,4 +1,4 @@
--- Laws of what specs/Tile.antt defines; whose head lists the main results.
+-- Laws of what specs/Tile.antt defines. The head of that file lists the main results.
 use Rattle.std.specs.Prelude.{◌≡◌, List, ℕ, ◌*◌, ◌-◌, ◌^◌, ◌<◌, ◌≤◌, pos, ◌≤ℤ◌}
 use Rattle.std.proofs.Common.{◌∙◌, ap, arith}
 use Rattle.integers.specs.Units.{steps_per_pixel}

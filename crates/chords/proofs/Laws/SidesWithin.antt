@@ -1,4 +1,4 @@
--- Laws of what specs/Laws/SidesWithin.antt defines; whose head lists the main results.
+-- Laws of what specs/Laws/SidesWithin.antt defines. The head of that file lists the main results.
 use Rattle.std.specs.Prelude.{◌≡◌, refl, Bool, true, false, cond, ℕ, zero, suc, ◌+◌, ◌*◌, ◌%◌, ◌<◌, ◌≤◌, eqb, take, ℤ, pos}
 use mathlib.Core.List.{List, [], ◌∷◌}
 use Rattle.std.proofs.Common.{arith, length-take-le}

@@ -1,4 +1,4 @@
--- Laws of what specs/Chords.antt defines; whose head lists the main results.
+-- Laws of what specs/Chords.antt defines. The head of that file lists the main results.
 use Rattle.std.specs.Prelude.{◌≡◌, refl, List, [], ◌∷◌, ℕ, suc, ◌+◌, ◌^◌, length, ℤ, pos}
 use Rattle.integers.specs.ListSum.{tally, joined}
 use Rattle.integers.specs.Rounding.{floor, round_half_up}

@@ -1,4 +1,4 @@
--- Laws of what specs/NearCurves.antt defines; whose head lists the main results.
+-- Laws of what specs/NearCurves.antt defines. The head of that file lists the main results.
 use Rattle.std.specs.Prelude.{List}
 use Rattle.integers.specs.ListSum.{All, joined}
 use Rattle.integers.proofs.Theorems.ListSum.{all_map}

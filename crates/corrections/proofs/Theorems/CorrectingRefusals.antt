@@ -1,4 +1,4 @@
--- Laws of what specs/CorrectingRefusals.antt defines; whose head lists the main results.
+-- Laws of what specs/CorrectingRefusals.antt defines. The head of that file lists the main results.
 use Rattle.std.specs.Prelude.{◌≡◌, ◌↔◌, ◌≢◌, List, [], ◌∷◌, ◌++◌, ℕ, ◌+◌, ◌<◌, ◌≤◌, ℤ, pos}
 use Rattle.std.proofs.Common.{sym, ◌∙◌, ap, true≢false, arith, le-leb}
 use Rattle.integers.specs.Units.{most_points, most_edges, entry_limit}

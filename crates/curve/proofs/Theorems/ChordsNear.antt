@@ -1,4 +1,4 @@
--- Laws of what specs/ChordsNear.antt defines; whose head lists the main results.
+-- Laws of what specs/ChordsNear.antt defines. The head of that file lists the main results.
 use Rattle.std.specs.Prelude.{◌≡◌, refl, [], ◌∷◌, ℕ, ◌*◌, ◌^◌, ◌<◌, ◌≤◌, ℤ, pos, ◌+ℤ◌, ◌-ℤ◌, ◌*ℤ◌, ◌≤ℤ◌}
 use Rattle.std.proofs.Common.{sym, ap}
 use Rattle.integers.proofs.Theorems.Ring.{read, comb, ◌⊗◌}

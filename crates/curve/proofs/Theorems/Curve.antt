@@ -1,4 +1,4 @@
--- Laws of what specs/Curve.antt defines; whose head lists the main results.
+-- Laws of what specs/Curve.antt defines. The head of that file lists the main results.
 use Rattle.std.specs.Prelude.{◌≡◌, refl, Bool, ◌&&◌, cond, ℕ, zero, suc, ◌*◌, ◌^◌, ℤ, pos, neg_ℤ, ◌+ℤ◌, ◌-ℤ◌, ◌*ℤ◌, ◌≤ℤ◌}
 use Rattle.integers.specs.Units.{greatest_sheet_coordinate, most_splits}
 use Rattle.integers.specs.Within.{Within}

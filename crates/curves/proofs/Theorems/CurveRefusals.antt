@@ -1,4 +1,4 @@
--- Laws of what specs/CurveRefusals.antt defines; whose head lists the main results.
+-- Laws of what specs/CurveRefusals.antt defines. The head of that file lists the main results.
 use Rattle.std.specs.Prelude.{◌≡◌, List, [], ◌∷◌, map, ◌↔◌, ℕ, ◌+◌, ◌<◌, ◌≤◌, eqb, length, ℤ}
 use Rattle.std.proofs.Common.{arith}
 use Rattle.integers.specs.Units.{most_edges}

@@ -1,4 +1,4 @@
--- Laws of what specs/CurveTheorem.antt defines; whose head lists the main results.
+-- Laws of what specs/CurveTheorem.antt defines. The head of that file lists the main results.
 use Rattle.std.specs.Prelude.{◌≡◌, refl, List, [], ◌∷◌, ◌↔◌, ℕ, ◌+◌, ◌*◌, ◌≤◌, length, ℤ, pos}
 use Rattle.std.proofs.Common.{sym, ◌∙◌, subst, arith}
 use Rattle.integers.specs.Units.{steps_per_pixel, most_edges, most_points, greatest_sheet_coordinate}

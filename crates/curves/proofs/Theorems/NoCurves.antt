@@ -1,4 +1,4 @@
--- Laws of what specs/NoCurves.antt defines; whose head lists the main results.
+-- Laws of what specs/NoCurves.antt defines. The head of that file lists the main results.
 use Rattle.std.specs.Prelude.{◌≡◌, refl, true, ◌&&◌, List, ◌↔◌, ℕ, zero, suc, ◌*◌, length, replicate, ℤ}
 use Rattle.std.proofs.Common.{sym, ◌∙◌, ap, ap₂, arith}
 use Rattle.std.proofs.lemmas.List.{length-replicate}

@@ -30,7 +30,7 @@ use Rattle.chords.proofs.Laws.SidesWithin.{numbers_even}
 use Rattle.tile.specs.declared.Built.{Built}
 use Rattle.tile.specs.Questions.{Question, first_no, question6}
 use Rattle.tile.proofs.Theorems.Refusals.{question4_means, question6_means}
-use Rattle.tile.proofs.Laws.Asking.{After, none_asked, no_at, yes_at, refused, passed}
+use Rattle.tile.proofs.Laws.Asking.{After, none_asked, no_at, yes_at, found_no, found_yes}
 use Rattle.tile.proofs.Laws.IfDone.{if_done_lem, if_refused}
 use Rattle.curves.specs.MarkedQuestions.{is_mark, question16, edges_marked, marked_questions}
 use Rattle.curves.specs.CurveOutcomes.{refusal, marked_result}
@@ -66,13 +66,13 @@ abbrev start-1 : tie.After-are_counts → tie.Start
 start-1 c = c.before.before.before
 
 after-1 : (c : tie.Else-not-are_counts) → After (questions (start-1 c.before)) 1
-after-1 c = passed (none_asked _) c.before.are_counts.ensures c.if-not-are_counts.false
+after-1 c = found_yes (none_asked _) c.before.are_counts.ensures c.if-not-are_counts.false
 
 returns : tie.Need-returns-then-not-are_counts
 returns c =
     let a = c.before.before in
     let s = start-1 a in
-    (c.refused.ensures ∙ refusal_is s (λ z. omega (arith, z)) (refused (none_asked (questions s)) a.are_counts.ensures c.before.if-not-are_counts.true), (refl, refl, refl))
+    (c.refused.ensures ∙ refusal_is s (λ z. omega (arith, z)) (found_no (none_asked (questions s)) a.are_counts.ensures c.before.if-not-are_counts.true), (refl, refl, refl))
 
 -- ---- question 16: each is a mark, and they are as many as the counts' sum
 abbrev start-2 : tie.After-are_marks → tie.Start
@@ -98,13 +98,13 @@ asked-16 : (c : tie.After-is_sum) → c.is_sum.result ≡ (question16 (counts (s
 asked-16 c = c.is_sum.ensures ∙ second_decides _ _ (marks-are c.before)
 
 after-2 : (c : tie.Else-not-is_sum) → After (questions (start-3 c.before)) 2
-after-2 c = passed (after-1 c.before.before.before.before) (asked-16 c.before) c.if-not-is_sum.false
+after-2 c = found_yes (after-1 c.before.before.before.before) (asked-16 c.before) c.if-not-is_sum.false
 
 returns-3 : tie.Need-returns-then-not-is_sum
 returns-3 c =
     let a = c.before.before in
     let s = start-3 a in (
-      c.refused-then-not-is_sum.ensures ∙ refusal_is s (λ z. omega (arith, z)) (refused (after-1 a.before.before.before) (asked-16 a) c.before.if-not-is_sum.true),
+      c.refused-then-not-is_sum.ensures ∙ refusal_is s (λ z. omega (arith, z)) (found_no (after-1 a.before.before.before) (asked-16 a) c.before.if-not-is_sum.true),
       (refl, refl, refl),
     )
 
@@ -113,12 +113,12 @@ abbrev start-4 : tie.After-is_size → tie.Start
 start-4 c = start-3 c.before.before
 
 after-3 : (c : tie.Else-not-is_size) → After (questions (start-4 c.before)) 3
-after-3 c = passed (after-2 c.before.before) c.before.is_size.ensures c.if-not-is_size.false
+after-3 c = found_yes (after-2 c.before.before) c.before.is_size.ensures c.if-not-is_size.false
 
 returns-4 : tie.Need-returns-then-not-is_size
 returns-4 c =
     let a = c.before.before in (
-      c.refused-then-not-is_size.ensures ∙ refusal_is (start-4 a) (λ z. omega (arith, z)) (refused (after-2 a.before) a.is_size.ensures c.before.if-not-is_size.true),
+      c.refused-then-not-is_size.ensures ∙ refusal_is (start-4 a) (λ z. omega (arith, z)) (found_no (after-2 a.before) a.is_size.ensures c.before.if-not-is_size.true),
       (refl, refl, refl),
     )
 
@@ -130,12 +130,12 @@ abbrev start-5 : tie.After-is_placeable → tie.Start
 start-5 c = start-4 c.before.before
 
 after-4 : (c : tie.Else-not-is_placeable) → After (questions (start-5 c.before)) 4
-after-4 c = passed (after-3 c.before.before) c.before.is_placeable.ensures c.if-not-is_placeable.false
+after-4 c = found_yes (after-3 c.before.before) c.before.is_placeable.ensures c.if-not-is_placeable.false
 
 returns-5 : tie.Need-returns-then-not-is_placeable
 returns-5 c =
     let a = c.before.before in (
-      c.refused-then-not-is_placeable.ensures ∙ refusal_is (start-5 a) (λ z. omega (arith, z)) (refused (after-3 a.before) a.is_placeable.ensures c.before.if-not-is_placeable.true),
+      c.refused-then-not-is_placeable.ensures ∙ refusal_is (start-5 a) (λ z. omega (arith, z)) (found_no (after-3 a.before) a.is_placeable.ensures c.before.if-not-is_placeable.true),
       (refl, refl, refl),
     )
 
@@ -163,12 +163,12 @@ asked-6 c =
     c.all_placed_within.ensures ∙ ap (λ high. every (between (pos 0) high) (drawn (start-6 c))) (known (limit-fits c.before) (limit_is c.before))
 
 after-5 : (c : tie.Else-not-all_placed_within) → After (questions (start-6 c.before)) 5
-after-5 c = passed (after-4 c.before.before) (asked-6 c.before) c.if-not-all_placed_within.false
+after-5 c = found_yes (after-4 c.before.before) (asked-6 c.before) c.if-not-all_placed_within.false
 
 returns-6 : tie.Need-returns-then-not-all_placed_within
 returns-6 c =
     let a = c.before.before in (
-      c.refused-then-not-all_placed_within.ensures ∙ refusal_is (start-6 a) (λ z. omega (arith, z)) (refused (after-4 a.before) (asked-6 a) c.before.if-not-all_placed_within.true),
+      c.refused-then-not-all_placed_within.ensures ∙ refusal_is (start-6 a) (λ z. omega (arith, z)) (found_no (after-4 a.before) (asked-6 a) c.before.if-not-all_placed_within.true),
       (refl, refl, refl),
     )
 

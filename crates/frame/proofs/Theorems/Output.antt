@@ -1,4 +1,4 @@
--- Laws of what specs/Output.antt defines; whose head lists the main results.
+-- Laws of what specs/Output.antt defines. The head of that file lists the main results.
 use Rattle.std.specs.Prelude.{◌≡◌, refl, List, [], ◌∷◌, ◌++◌, ℕ, ◌+◌, ◌*◌, ◌^◌, length, get_or, replicate, ℤ, pos}
 use Rattle.integers.specs.Units.{greatest_side}
 use Rattle.haar.specs.Greys.{grey_of}

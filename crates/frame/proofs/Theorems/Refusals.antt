@@ -1,4 +1,4 @@
--- Laws of what specs/Refusals.antt defines; whose head lists the main results.
+-- Laws of what specs/Refusals.antt defines. The head of that file lists the main results.
 use Rattle.std.specs.Prelude.{◌≡◌, List, [], ◌∷◌, ◌↔◌, ℕ, ◌<◌, ℤ}
 use Rattle.integers.specs.ListSum.{All}
 use Rattle.tile.specs.Questions.{Yes, No, DecidedBy, question1, question4, question5, question6, question7}

@@ -1,4 +1,4 @@
--- Laws of what specs/RoundTrip.antt defines; whose head lists the main results.
+-- Laws of what specs/RoundTrip.antt defines. The head of that file lists the main results.
 use Rattle.std.specs.Prelude.{◌≡◌, ℕ, ◌≤◌, true, ◌↔◌, List, length}
 use Rattle.std.proofs.Common.{sym, subst}
 use Rattle.integers.specs.Units.{text_limit}

@@ -1,4 +1,4 @@
--- Laws of what specs/Below.antt defines; whose head lists the main results.
+-- Laws of what specs/Below.antt defines. The head of that file lists the main results.
 use Rattle.std.specs.Prelude.{◌≡◌, Bool, true, false, ◌&&◌, ℕ, zero, suc, ◌<◌}
 use Rattle.std.proofs.Common.{sym, true≢false, arith}
 use Rattle.std.proofs.Math.Path.{subst⁻¹}

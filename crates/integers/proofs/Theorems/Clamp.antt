@@ -1,4 +1,4 @@
--- Laws of what specs/Clamp.antt defines; whose head lists the main results.
+-- Laws of what specs/Clamp.antt defines. The head of that file lists the main results.
 use Rattle.std.specs.Prelude.{◌≡◌, refl, List, [], ◌∷◌, ◌⊎◌, ℕ, zero, suc, ℤ, pos, ◌+ℤ◌, ◌-ℤ◌, ◌*ℤ◌, ◌≤ℤ◌, ◌<ℤ◌}
 use Rattle.std.proofs.Common.{sym, ◌∙◌, ap, inl, inr}
 use Rattle.integers.proofs.Theorems.Ring.{read, ring}

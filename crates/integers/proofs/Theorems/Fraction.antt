@@ -1,4 +1,4 @@
--- Laws of what specs/Fraction.antt defines; whose head lists the main results.
+-- Laws of what specs/Fraction.antt defines. The head of that file lists the main results.
 use Rattle.std.specs.Prelude.{◌≡◌, ℤ}
 use Rattle.std.proofs.Math.Path.{refl, sym, ap, ap₂}
 use Rattle.std.proofs.Common.{◌∙◌, one-mul, mul_assoc}

@@ -1,4 +1,4 @@
--- Laws of what specs/HalfSign.antt defines; whose head lists the main results.
+-- Laws of what specs/HalfSign.antt defines. The head of that file lists the main results.
 use Rattle.std.specs.Prelude.{◌≡◌, refl, ◌⊎◌, ℕ, zero, suc, ◌<◌, ℤ, pos, negsuc, ◌-ℤ◌, ◌*ℤ◌}
 use Rattle.std.proofs.Common.{inl, inr, arith}
 use Rattle.integers.specs.HalfSign.{half_sign}

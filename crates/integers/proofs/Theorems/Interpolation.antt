@@ -1,4 +1,4 @@
--- Laws of what specs/Interpolation.antt defines; whose head lists the main results.
+-- Laws of what specs/Interpolation.antt defines. The head of that file lists the main results.
 use Rattle.std.specs.Prelude.{◌≡◌, [], ◌∷◌, ◌⊎◌, ℕ, ◌≤◌, ℤ, pos, negsuc, ◌+ℤ◌, ◌-ℤ◌, ◌*ℤ◌, ◌≤ℤ◌, ◌<ℤ◌}
 use Rattle.std.proofs.Common.{sym, ◌∙◌, ap, ap₂, inl, inr}
 use Rattle.std.proofs.Math.Path.{subst⁻¹}

@@ -1,4 +1,4 @@
--- Laws of what specs/Linear.antt defines; whose head lists the main results.
+-- Laws of what specs/Linear.antt defines. The head of that file lists the main results.
 use Rattle.std.specs.Prelude.{◌≡◌, List, [], ◌∷◌, ◌⊎◌, ℕ, ℤ, pos, ◌+ℤ◌, ◌-ℤ◌, ◌*ℤ◌, ◌≤ℤ◌, ◌<ℤ◌}
 use Rattle.std.proofs.Common.{sym, ◌∙◌, ap₂, subst, inl, inr}
 use Rattle.integers.specs.Polynomial.{◌⊟◌, Polynomial, eval_p, normal}

@@ -1,4 +1,4 @@
--- Laws of what specs/ListSum.antt defines; whose head lists the main results.
+-- Laws of what specs/ListSum.antt defines. The head of that file lists the main results.
 use Rattle.std.specs.Prelude.{◌≡◌, ℕ, zero, suc, ◌+◌, ◌*◌, ◌<◌, get_or, take, drop, ℤ, nat_abs, ◌*ℤ◌}
 use Rattle.std.proofs.Math.Path.{refl, ap, ap₂}
 use Rattle.std.proofs.Common.{sym, ◌∙◌, arith}

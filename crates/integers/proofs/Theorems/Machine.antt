@@ -1,4 +1,4 @@
--- Laws of what specs/Machine.antt defines; whose head lists the main results.
+-- Laws of what specs/Machine.antt defines. The head of that file lists the main results.
 use Rattle.std.specs.Prelude.{◌≡◌, refl, List, Bool, true, false, ℕ, zero, suc, ◌+◌, ◌-◌, ◌^◌, ◌<◌, ◌≤◌, T, ℤ, pos, negsuc, neg_ℤ, ◌+ℤ◌, ◌-ℤ◌, ◌*ℤ◌, ◌≤ℤ◌, ◌<ℤ◌}
 use Rattle.std.proofs.Common.{sym, ◌∙◌, ap₂, arith, ltb→lt, leb→le, le→leb, to_z-of_z}
 use Rattle.std.specs.Int.Signed.{mag, le_z, lt_z, le_z_yes}

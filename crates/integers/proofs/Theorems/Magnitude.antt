@@ -1,4 +1,4 @@
--- Laws of what specs/Magnitude.antt defines; whose head lists the main results.
+-- Laws of what specs/Magnitude.antt defines. The head of that file lists the main results.
 use Rattle.std.specs.Prelude.{◌≡◌, refl, [], ◌∷◌, ℕ, zero, suc, ◌+◌, ◌*◌, ◌≤◌, ℤ, pos, negsuc, neg_ℤ, nat_abs, ◌+ℤ◌, ◌-ℤ◌, ◌*ℤ◌, ◌≤ℤ◌}
 use Rattle.std.proofs.Common.{ap, subst, leb→le}
 use Rattle.std.specs.Int.Signed.{le_z_yes}

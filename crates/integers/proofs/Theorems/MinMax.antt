@@ -1,4 +1,4 @@
--- Laws of what specs/MinMax.antt defines; whose head lists the main results.
+-- Laws of what specs/MinMax.antt defines. The head of that file lists the main results.
 use Rattle.std.specs.Prelude.{◌≡◌, refl, [], ◌∷◌, Bool, true, false, cond, ℤ, pos, negsuc, neg_ℤ, ◌-ℤ◌, ◌*ℤ◌, ◌≤ℤ◌}
 use Rattle.std.proofs.Common.{sym, ◌∙◌, ap}
 use Rattle.std.proofs.Math.Path.{subst⁻¹}

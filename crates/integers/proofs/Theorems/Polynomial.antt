@@ -1,4 +1,4 @@
--- Laws of what specs/Polynomial.antt defines; whose head lists the main results.
+-- Laws of what specs/Polynomial.antt defines. The head of that file lists the main results.
 use Rattle.std.specs.Prelude.{◌≡◌, refl, List, [], ◌∷◌, T, ℤ, pos, negsuc, neg_ℤ, ◌+ℤ◌, ◌*ℤ◌}
 use Rattle.std.proofs.Common.{sym, ◌∙◌, ap, ap₂, eqb→eq}
 use Prim.Native.Nat.{ℕ, zero, suc, compare, Ordering}

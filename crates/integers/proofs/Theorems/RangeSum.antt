@@ -1,4 +1,4 @@
--- Laws of what specs/RangeSum.antt defines; whose head lists the main results.
+-- Laws of what specs/RangeSum.antt defines. The head of that file lists the main results.
 use Rattle.std.specs.Prelude.{◌≡◌, refl, [], ◌∷◌, ◌≢◌, ℕ, zero, suc, ◌+◌, ◌*◌, ◌^◌, ◌<◌, ℤ, pos, neg_ℤ, ◌+ℤ◌, ◌-ℤ◌, ◌*ℤ◌}
 use Rattle.std.proofs.Common.{sym, ◌∙◌, ap, ap₂, add-suc, add-zero, zero-mul, suc-mul, pow-suc, arith}
 use Rattle.std.proofs.Math.Decide.{ℕ_discrete}

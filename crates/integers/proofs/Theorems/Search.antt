@@ -1,4 +1,4 @@
--- Laws of what specs/Search.antt defines; whose head lists the main results.
+-- Laws of what specs/Search.antt defines. The head of that file lists the main results.
 use Rattle.std.specs.Prelude.{◌≡◌, refl, ◌↔◌, ◌⊎◌, Bool, true, false, ◌&&◌, cond, List, [], ◌∷◌, ◌++◌, ℕ, zero, suc, ◌+◌, ◌<◌, ◌≤◌, length, get_or, take, drop}
 use Rattle.std.proofs.Common.{sym, ◌∙◌, ap, inl, inr, true≢false, add-one, arith, drop_of_length-le, drop-cons}
 use Rattle.integers.specs.ListSum.{All}

@@ -1,4 +1,4 @@
--- Laws of what specs/Tests.antt defines; whose head lists the main results.
+-- Laws of what specs/Tests.antt defines. The head of that file lists the main results.
 use Rattle.std.specs.Prelude.{◌≡◌, refl, List, [], ◌∷◌, ◌↔◌, ◌⊎◌, Bool, true, false, ◌&&◌, ◌||◌, ℕ, ◌<◌, ◌≤◌, T, eqb, leb, ltb, ℤ, neg_ℤ, ◌≤ℤ◌}
 use Rattle.std.proofs.Common.{sym, inl, inr, ⊎_elim, true≢false, eqb-true, leb-true, ltb-true, eq-eqb, le-leb, lt-ltb}
 use Rattle.std.specs.Int.Signed.{le_z}

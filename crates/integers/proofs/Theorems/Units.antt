@@ -1,4 +1,4 @@
--- Laws of what specs/Units.antt defines; whose head lists the main results.
+-- Laws of what specs/Units.antt defines. The head of that file lists the main results.
 use Rattle.std.specs.Prelude.{◌≡◌, refl, ℕ, ◌+◌, ◌*◌, ◌^◌}
 use Rattle.integers.specs.Units.{built_entry_limit, figure_limit, greatest_coordinate, greatest_sheet_coordinate, greatest_side, greatest_tile_side, most_splits, numerator_limit, placed_limit, steps_per_pixel, units_per_pixel, width_times_extent_limit}
 

@@ -1,4 +1,4 @@
--- Laws of what specs/Within.antt defines; whose head lists the main results.
+-- Laws of what specs/Within.antt defines. The head of that file lists the main results.
 use Rattle.std.specs.Prelude.{◌≡◌, refl, [], ◌∷◌, ◌⊎◌, ℕ, ◌≤◌, ℤ, pos, negsuc, neg_ℤ, nat_abs, ◌+ℤ◌, ◌-ℤ◌, ◌*ℤ◌, ◌≤ℤ◌}
 use Rattle.std.proofs.Common.{sym, subst, subst₂, inl, inr}
 use Rattle.integers.proofs.Theorems.Ring.{read, ring, comb, ◌⊗◌}

@@ -1,4 +1,4 @@
--- Laws of what specs/Exact.antt defines; whose head lists the main results.
+-- Laws of what specs/Exact.antt defines. The head of that file lists the main results.
 use Rattle.std.specs.Prelude.{◌≡◌, ℕ, ◌+◌, ◌*◌, ◌<◌, ◌≤◌, true, T, List, [], ◌∷◌, length, ℤ, pos, ◌+ℤ◌, ◌*ℤ◌, slice_index_or, unsigned_abs, Float}
 use Rattle.std.proofs.Common.{mul-le-mul, le_trans, lt_of_le_of_lt, arith, lit<, lit≤}
 use Rattle.std.specs.Float.{binary64}

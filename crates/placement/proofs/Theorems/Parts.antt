@@ -1,4 +1,4 @@
--- Laws of what specs/Parts.antt defines; whose head lists the main results.
+-- Laws of what specs/Parts.antt defines. The head of that file lists the main results.
 use Rattle.std.specs.Prelude.{◌≡◌, ℕ, ◌*◌, ◌/◌, ◌%◌, ◌^◌, ◌≤◌, Bool, true, false, ◌&&◌, ℤ, pos, ◌*ℤ◌, neg_ℤ, ◌==◌, nat_le, unsigned_abs, refl, Float}
 use Rattle.std.specs.Float.{nan, inf, fin}
 use Rattle.std.specs.Float.Ieee.{up, down}

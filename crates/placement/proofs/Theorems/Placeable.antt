@@ -1,4 +1,4 @@
--- Laws of what specs/Placeable.antt defines; whose head lists the main results.
+-- Laws of what specs/Placeable.antt defines. The head of that file lists the main results.
 use Rattle.std.specs.Prelude.{◌≡◌, ◌-◌, true, false, ◌↔◌, List, [], ◌∷◌, ℤ, pos, negsuc, neg_ℤ, ◌≤ℤ◌, refl, Float}
 use Rattle.std.specs.Float.{fin}
 use Rattle.integers.specs.Units.{factor_limit, offset_limit, movable_limit}

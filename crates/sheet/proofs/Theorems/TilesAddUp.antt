@@ -1,4 +1,4 @@
--- Laws of what specs/TilesAddUp.antt defines; whose head lists the main results.
+-- Laws of what specs/TilesAddUp.antt defines. The head of that file lists the main results.
 use Rattle.std.specs.Prelude.{◌≡◌, refl, List, [], ◌∷◌, ℕ, ◌*◌, ◌/◌, ◌<◌, eqb, length, get_or, replicate, ℤ, pos}
 use Rattle.std.proofs.Common.{◌∙◌, ap, arith, lit<}
 use Rattle.integers.specs.ListSum.{All, tally}

@@ -5,10 +5,12 @@
 --   question_at qs k            question k
 --   none_asked                 no question was asked yet
 --   no_at, yes_at              question k's answer decides, or the questions after it do
---   refused, passed            the same by what the code found
+--   found_no, found_yes        the same by what the code found
+--   refused, passed            and by the test of its negation
 --   first_refused, first_passed    the same of the questions that a list begins with
-use Rattle.std.specs.Prelude.{◌≡◌, refl, Bool, true, false, cond, List, [], ◌∷◌, ◌++◌, ℕ, zero, suc, get_or, drop}
+use Rattle.std.specs.Prelude.{◌≡◌, refl, Bool, true, false, not, cond, List, [], ◌∷◌, ◌++◌, ℕ, zero, suc, get_or, drop}
 use Rattle.std.proofs.Common.{sym, ◌∙◌, ap}
+use Rattle.std.proofs.lemmas.Bool.{not-true, not-false}
 use Rattle.integers.specs.ListSum.{All}
 use Rattle.tile.specs.Questions.{Question, Yes, first_no}
 
@@ -40,11 +42,18 @@ module _ {qs : List Question} {k : ℕ} (h : After qs k) where
 
   -- what the code found
   module _ {found : Bool} (e : found ≡ (question_at qs k).answer) where
-    pub refused : found ≡ false → (question_at qs k).number ≡ first_no qs
-    refused t = no_at (sym e ∙ t)
+    pub found_no : found ≡ false → (question_at qs k).number ≡ first_no qs
+    found_no t = no_at (sym e ∙ t)
 
-    pub passed : found ≡ true → After qs (suc k)
-    passed t = yes_at (sym e ∙ t)
+    pub found_yes : found ≡ true → After qs (suc k)
+    found_yes t = yes_at (sym e ∙ t)
+
+    -- by the test of its negation
+    pub refused : not found ≡ true → (question_at qs k).number ≡ first_no qs
+    refused t = found_no (not-true found t)
+
+    pub passed : not found ≡ false → After qs (suc k)
+    passed t = found_yes (not-false found t)
 
 -- ---- a list that begins with other questions
 number_stays : (b : Bool) (n m k : ℕ) → ((n ≡ 0 → ⊥) → n ≡ m) → (cond b n k ≡ 0 → ⊥) → cond b n k ≡ cond b m k

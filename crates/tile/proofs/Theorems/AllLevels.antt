@@ -1,4 +1,4 @@
--- Laws of what specs/AllLevels.antt defines; whose head lists the main results.
+-- Laws of what specs/AllLevels.antt defines. The head of that file lists the main results.
 use Rattle.std.specs.Prelude.{◌≡◌, List, ℕ, suc, ◌^◌, ◌≤◌, length, ℤ}
 use Rattle.std.proofs.Common.{sym, ◌∙◌, ap, arith}
 use Rattle.haar.specs.Greys.{grey_of}

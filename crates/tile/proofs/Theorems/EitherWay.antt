@@ -1,4 +1,4 @@
--- Laws of what specs/EitherWay.antt defines; whose head lists the main results.
+-- Laws of what specs/EitherWay.antt defines. The head of that file lists the main results.
 use Rattle.std.specs.Prelude.{◌≡◌, refl, Bool, ℕ, zero, suc, ◌*◌, ◌^◌, eqb, leb, length, ℤ, pos, neg_ℤ, ◌*ℤ◌}
 use Rattle.std.proofs.Common.{sym, ◌∙◌, ap, ap₂, arith}
 use Rattle.std.proofs.Math.Path.{fun_ext}

@@ -1,4 +1,4 @@
--- Laws of what specs/EntrySearch.antt defines; whose head lists the main results.
+-- Laws of what specs/EntrySearch.antt defines. The head of that file lists the main results.
 use Rattle.std.specs.Prelude.{◌≡◌, refl, ◌↔◌, ◌⊎◌, Bool, List, [], ◌∷◌, ◌++◌, ℕ, suc, length, take, ℤ, pos, neg_ℤ}
 use Rattle.integers.specs.Units.{entry_limit}
 use Rattle.integers.specs.ListSum.{All}

@@ -1,4 +1,4 @@
--- Laws of what specs/Letters.antt defines; whose head lists the main results.
+-- Laws of what specs/Letters.antt defines. The head of that file lists the main results.
 use Rattle.std.specs.Prelude.{◌≡◌, refl, List, [], ◌∷◌, ℕ, suc, ◌*◌, ◌/◌, ◌^◌, length, drop, ℤ, pos, neg_ℤ}
 use Rattle.std.proofs.Common.{◌∙◌, ap}
 use Rattle.integers.specs.ListSum.{All, tally}

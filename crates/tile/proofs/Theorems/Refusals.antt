@@ -1,4 +1,4 @@
--- Laws of what specs/Refusals.antt defines; whose head lists the main results.
+-- Laws of what specs/Refusals.antt defines. The head of that file lists the main results.
 use Rattle.std.specs.Prelude.{◌≡◌, refl, List, [], ◌∷◌, ◌↔◌, ◌&&◌, ℕ, zero, suc, ◌*◌, ◌^◌, ◌<◌, ◌≤◌, leb, ltb, length, ℤ, pos, neg_ℤ, ◌≤ℤ◌}
 use Rattle.std.proofs.Common.{arith}
 use Rattle.std.specs.Int.Count.{count_trailing_zeros}

@@ -1,4 +1,4 @@
--- Laws of what specs/ReversedOutline.antt defines; whose head lists the main results.
+-- Laws of what specs/ReversedOutline.antt defines. The head of that file lists the main results.
 use Rattle.std.specs.Prelude.{◌≡◌, refl, Bool, not, ◌&&◌, ◌||◌, List, [], ◌∷◌, map, reverse, ℕ, ◌*◌, eqb, length, ℤ, pos}
 use Rattle.std.proofs.Common.{sym, ◌∙◌, ap, ap₂}
 use Rattle.integers.specs.Units.{steps_per_pixel}

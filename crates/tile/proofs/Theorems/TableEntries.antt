@@ -1,4 +1,4 @@
--- Laws of what specs/TableEntries.antt defines; whose head lists the main results.
+-- Laws of what specs/TableEntries.antt defines. The head of that file lists the main results.
 use Rattle.std.specs.Prelude.{◌≡◌, refl, List, [], ℕ, suc, ◌+◌, ◌*◌, ◌-◌, ◌/◌, ◌%◌, ◌^◌, ◌<◌, ◌≤◌, length, get_or, replicate, ℤ, pos, ◌+ℤ◌, ◌*ℤ◌}
 use Rattle.std.proofs.Common.{sym, ◌∙◌, ap, subst, lit≤}
 use Rattle.std.proofs.Math.Path.{subst⁻¹}

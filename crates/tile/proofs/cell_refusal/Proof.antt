@@ -5,7 +5,7 @@ use borrow.Author.Rules.{rules}
 use borrow.Author.Tests.{not-true, not-false}
 use Rattle.tile.specs.Questions.{Question, question10, question9}
 use Rattle.tile.specs.Inner.{level_questions}
-use Rattle.tile.proofs.Laws.Asking.{After, refused, passed}
+use Rattle.tile.proofs.Laws.Asking.{After, found_no, found_yes}
 use Rattle.tile.proofs.LevelFirst.{level_refused, level_passed, level_shallow}
 use Rattle.tile.proofs.cell_refusal.Statement.{statement}
 use Rattle.tile.proofs.cell_refusal.Tie as tie
@@ -32,16 +32,16 @@ is-cell-requires c κs =
     level_shallow s.args.side s.args.level s.args.table.now c.before.level_refusal-number.ensures c.if-number-ne-DONE.false
 
 returns-2 : tie.Need-returns-then-not-is_cell
-returns-2 c = refused (after-3 c.before.before) c.before.is_cell.ensures c.if-not-is_cell.true
+returns-2 c = found_no (after-3 c.before.before) c.before.is_cell.ensures c.if-not-is_cell.true
 
 after-4 : (c : tie.Else-not-is_cell) → After (questions c.before.before.before.before) 4
-after-4 c = passed (after-3 c.before.before) c.before.is_cell.ensures c.if-not-is_cell.false
+after-4 c = found_yes (after-3 c.before.before) c.before.is_cell.ensures c.if-not-is_cell.false
 
 returns-3 : tie.Need-returns-then-not-search_entries
-returns-3 c = refused (after-4 c.before.before.before) c.before.before.search_entries.ensures.0 (not-true _ c.if-not-search_entries.true)
+returns-3 c = found_no (after-4 c.before.before.before) c.before.before.search_entries.ensures.0 (not-true _ c.if-not-search_entries.true)
 
 returns-4 : tie.Need-returns
-returns-4 c = sym (passed (after-4 c.before.before.before) c.before.before.search_entries.ensures.0 (not-false _ c.if-not-search_entries.false)).same
+returns-4 c = sym (found_yes (after-4 c.before.before.before) c.before.before.search_entries.ensures.0 (not-false _ c.if-not-search_entries.false)).same
 
 pub cell_refusal_spec : {M : Type 1} → statement M
 cell_refusal_spec =

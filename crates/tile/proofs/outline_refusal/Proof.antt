@@ -15,7 +15,7 @@ use Rattle.accuracy.specs.Outline.{edge_count}
 use Rattle.integers.specs.Tests.{every, between}
 use Rattle.placement.specs.Placed.{placed}
 use Rattle.tile.specs.Questions.{Question, question6, outline_questions}
-use Rattle.tile.proofs.Laws.Asking.{After, none_asked, no_at, yes_at, refused, passed}
+use Rattle.tile.proofs.Laws.Asking.{After, none_asked, no_at, yes_at, found_no, found_yes}
 use Rattle.tile.proofs.Laws.CountsSum.{edges_within, capped_le, capped_most, capped_within}
 use Rattle.tile.proofs.outline_refusal.Statement.{statement}
 use Rattle.tile.proofs.outline_refusal.Tie as tie
@@ -25,10 +25,10 @@ questions s = outline_questions s.args.reach s.args.points.now s.args.counts.now
 
 -- ---- question 4
 after-1 : (c : tie.Else-not-are_counts) → After (questions c.before.before.before) 1
-after-1 c = passed (none_asked _) c.before.are_counts.ensures c.if-not-are_counts.false
+after-1 c = found_yes (none_asked _) c.before.are_counts.ensures c.if-not-are_counts.false
 
 returns : tie.Need-returns-then-not-are_counts
-returns c = (refused (none_asked (questions c.before.before.before)) c.before.are_counts.ensures c.if-not-are_counts.true, (refl, refl))
+returns c = (found_no (none_asked (questions c.before.before.before)) c.before.are_counts.ensures c.if-not-are_counts.true, (refl, refl))
 
 -- ---- question 5: with what is in already, the sum is at most the most edges exactly where what `edges_of` found is
 module _ (c : tie.After-edges_of-edges) where
@@ -75,10 +75,10 @@ returns-3 c = (no_at (after-2 c.before) (ne_eqb _ _ (λ e. c.if-points-edges.tru
 
 -- ---- question 12
 after-4 : (c : tie.Else-not-is_placeable) → After (questions (start c.before.before.before.before)) 4
-after-4 c = passed (after-3 c.before.before) c.before.is_placeable.ensures c.if-not-is_placeable.false
+after-4 c = found_yes (after-3 c.before.before) c.before.is_placeable.ensures c.if-not-is_placeable.false
 
 returns-4 : tie.Need-returns-then-not-is_placeable
-returns-4 c = (refused (after-3 c.before.before) c.before.is_placeable.ensures c.if-not-is_placeable.true, (refl, refl))
+returns-4 c = (found_no (after-3 c.before.before) c.before.is_placeable.ensures c.if-not-is_placeable.true, (refl, refl))
 
 -- ---- question 6, of the placed points: the greatest coordinate fits, whatever the side
 module _ (c : tie.Else-not-is_placeable) where
@@ -104,10 +104,10 @@ asked-6 c =
     c.all_placed_within.ensures ∙ ap (λ high. every (between (pos 0) high) l) (known (limit-fits c.before) (limit_is c.before))
 
 returns-5 : tie.Need-returns-then-not-all_placed_within
-returns-5 c = (refused (after-4 c.before.before) (asked-6 c.before) c.if-not-all_placed_within.true, (refl, refl))
+returns-5 c = (found_no (after-4 c.before.before) (asked-6 c.before) c.if-not-all_placed_within.true, (refl, refl))
 
 returns-6 : tie.Need-returns
-returns-6 c = (sym (passed (after-4 c.before.before) (asked-6 c.before) c.if-not-all_placed_within.false).same, (refl, refl))
+returns-6 c = (sym (found_yes (after-4 c.before.before) (asked-6 c.before) c.if-not-all_placed_within.false).same, (refl, refl))
 
 pub outline_refusal_spec : {M : Type 1} → statement M
 outline_refusal_spec =

@@ -7,7 +7,7 @@ use Rattle.integers.specs.ListSum.{All}
 use Rattle.tile.specs.Questions.{Question, Yes, question8_all, question9, table_questions}
 use Rattle.tile.proofs.Laws.Sides.{side_depth}
 use Rattle.tile.proofs.Laws.FirstNo.{first_no-zero}
-use Rattle.tile.proofs.Laws.Asking.{After, first_refused, first_passed, refused, passed}
+use Rattle.tile.proofs.Laws.Asking.{After, first_refused, first_passed, found_no, found_yes}
 use Rattle.tile.proofs.pyramid_refusal.Statement.{statement}
 use Rattle.tile.proofs.pyramid_refusal.Tie as tie
 
@@ -33,16 +33,16 @@ is-pyramid-requires : tie.Need-is_pyramid-requires
 is-pyramid-requires c κs = side_depth _ (first-yes c).0
 
 returns-2 : tie.Need-returns-then-not-is_pyramid
-returns-2 c = refused (after-2 c.before.before) c.before.is_pyramid.ensures c.if-not-is_pyramid.true
+returns-2 c = found_no (after-2 c.before.before) c.before.is_pyramid.ensures c.if-not-is_pyramid.true
 
 after-3 : (c : tie.Else-not-is_pyramid) → After (first c.before.before.before.before ++ rest c.before.before.before.before) 3
-after-3 c = passed (after-2 c.before.before) c.before.is_pyramid.ensures c.if-not-is_pyramid.false
+after-3 c = found_yes (after-2 c.before.before) c.before.is_pyramid.ensures c.if-not-is_pyramid.false
 
 returns-3 : tie.Need-returns-then-not-search_entries
-returns-3 c = refused (after-3 c.before.before.before) c.before.before.search_entries.ensures.0 (not-true _ c.if-not-search_entries.true)
+returns-3 c = found_no (after-3 c.before.before.before) c.before.before.search_entries.ensures.0 (not-true _ c.if-not-search_entries.true)
 
 returns-4 : tie.Need-returns
-returns-4 c = sym (passed (after-3 c.before.before.before) c.before.before.search_entries.ensures.0 (not-false _ c.if-not-search_entries.false)).same
+returns-4 c = sym (found_yes (after-3 c.before.before.before) c.before.before.search_entries.ensures.0 (not-false _ c.if-not-search_entries.false)).same
 
 pub pyramid_refusal_spec : {M : Type 1} → statement M
 pyramid_refusal_spec =

@@ -1,4 +1,4 @@
--- Laws of what specs/PlacementNumbers.antt defines; whose head lists the main results.
+-- Laws of what specs/PlacementNumbers.antt defines. The head of that file lists the main results.
 use Rattle.std.specs.Prelude.{◌≡◌, refl, false, cond, List, [], ◌∷◌, ◌≢◌, eqb, length, get_or, ℤ, pos, Float}
 use Rattle.std.proofs.Common.{◌∙◌, ap, ne_eqb}
 use Rattle.std.specs.Float.{nan, fin}

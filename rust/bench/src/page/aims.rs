@@ -26,7 +26,7 @@ struct Aim {
     wanted: Wanted,
 }
 
-/// 01's exact area, in whole numbers, of which the fiftieth and the fifteenth are meant; and the faster program in floats, which is not exact.
+/// 01's exact area, in whole numbers; and the faster program in floats, which is not exact.
 const EXACT: Case = Case::Pixels(Arithmetic::WholeNumbers);
 const FLOATS: Case = Case::Pixels(Arithmetic::Floats);
 const FREETYPE: Case = Case::Other(Library::FreeType, Size::All);
@@ -35,7 +35,7 @@ const AGG: Case = Case::Other(Library::Agg, Size::All);
 /// "no more than half its time"
 const HALF: f64 = 2.0;
 
-const AIMS: [Aim; 13] = [
+const AIMS: [Aim; 15] = [
     Aim { asked: true, shape: Shape::Letter, theirs: EXACT, wanted: Wanted::Times(HALF) },
     Aim { asked: true, shape: Shape::Random, theirs: EXACT, wanted: Wanted::Times(HALF) },
     Aim { asked: true, shape: Shape::Traced, theirs: EXACT, wanted: Wanted::Times(HALF) },
@@ -43,7 +43,9 @@ const AIMS: [Aim; 13] = [
     Aim { asked: true, shape: Shape::Random, theirs: FLOATS, wanted: Wanted::Times(HALF) },
     Aim { asked: true, shape: Shape::Traced, theirs: FLOATS, wanted: Wanted::Times(HALF) },
     Aim { asked: false, shape: Shape::Letter, theirs: EXACT, wanted: Wanted::Times(50.0) },
+    Aim { asked: false, shape: Shape::Letter, theirs: FLOATS, wanted: Wanted::Times(50.0) },
     Aim { asked: false, shape: Shape::Random, theirs: EXACT, wanted: Wanted::Times(15.0) },
+    Aim { asked: false, shape: Shape::Random, theirs: FLOATS, wanted: Wanted::Times(15.0) },
     Aim { asked: false, shape: Shape::Letter, theirs: FREETYPE, wanted: Wanted::Times(1.5) },
     Aim { asked: false, shape: Shape::Letter, theirs: FREETYPE, wanted: Wanted::Instructions },
     Aim { asked: false, shape: Shape::Random, theirs: FREETYPE, wanted: Wanted::Times(5.0) },
