@@ -10,8 +10,7 @@
 --   contour_edges, outline_edges   the edges of one contour, and of all contours of an outline
 --   signed_area es                the signed area that edges enclose, in 01's units of half a square step
 --   gain f e, ClosedEdges es     what a function of a point gains along an edge; in closed edges the gains add up to 0
-use Rattle.std.specs.Prelude.{◌≡◌, List, [], ◌∷◌, ◌++◌, ℕ, ◌+◌, ◌*◌, get_or, take, drop, ℤ, pos, ◌-ℤ◌, ◌*ℤ◌}
-use Rattle.integers.proofs.Theorems.Ring.{read, ring}
+use Rattle.std.specs.Prelude.{◌≡◌, List, [], ◌∷◌, ◌++◌, ℕ, ◌+◌, ◌*◌, get_or, take, drop, ℤ, pos, ◌-ℤ◌}
 use Rattle.integers.specs.ListSum.{total, tally}
 use Rattle.edge.specs.declared.Edge.{Edge}
 use Rattle.edge.specs.Rounded.{root_term}

@@ -5,17 +5,9 @@
 --   outline_table depth es                 the sums over the edges
 --   rooted_table, table_from                the same with another root
 --   tile_root, tile_table depth es          and with the root that a tile of a sheet has: edges may lie beyond the tile
-use Rattle.std.specs.Prelude.{◌≡◌, refl, List, [], ◌∷◌, ℕ, ℤ, pos}
-use Rattle.integers.specs.MinMax.{min, max}
-use Rattle.integers.specs.Clamp.{clamp}
-use Rattle.integers.specs.RangeSum.{Σ<}
-use Rattle.integers.specs.Trapezoid.{S}
-use Rattle.integers.specs.Rounding.{nearestℕ, round_half_away}
-use Rattle.integers.specs.Fraction.{common, numer}
+use Rattle.std.specs.Prelude.{List, ℕ, ℤ}
 use Rattle.integers.specs.ListSum.{total}
 use Rattle.edge.specs.declared.Edge.{Edge}
-use Rattle.edge.specs.Walk.{extent, sign}
-use Rattle.edge.specs.Integrals.{area_num}
 use Rattle.edge.specs.Rounded.{details, root_term, rounded_area}
 use Rattle.haar.specs.Table.{Coefficients}
 use Rattle.haar.specs.Plane.{dimensions}

@@ -8,14 +8,12 @@
 --   EdgeOnTile depth e           an edge between two such points
 --   ClosedOnTile depth es        closed edges on the tile
 --   CellOf depth level cx cy     cell (cx, cy) of a level that the tile has
-use Rattle.std.specs.Prelude.{◌≡◌, List, ℕ, ◌*◌, ◌-◌, ◌^◌, ◌<◌, ◌≤◌, pos, ◌≤ℤ◌}
-use Rattle.std.proofs.Common.{◌∙◌, ap, arith}
+use Rattle.std.specs.Prelude.{List, ℕ, ◌*◌, ◌-◌, ◌^◌, ◌<◌, ◌≤◌, pos, ◌≤ℤ◌}
 use Rattle.integers.specs.Units.{steps_per_pixel}
 use Rattle.integers.specs.ListSum.{All}
 use Rattle.edge.specs.declared.Edge.{Edge}
 use Rattle.edge.specs.declared.Cell.{Cell as Square}
 use Rattle.haar.specs.Cells.{Cell}
-use Rattle.haar.specs.Greys.{full}
 use Rattle.haar.specs.Plane.{dimensions}
 use Rattle.accuracy.specs.Outline.{Point, ClosedEdges}
 

@@ -6,17 +6,16 @@
 --   chord_point c i               the ends of its chords, number 0 to 2^k
 --   chords_of s                   the edges of a side
 --   contour_chords, outline_chords those of a contour, and of an outline
-use Rattle.std.specs.Prelude.{◌≡◌, refl, List, [], ◌∷◌, ℕ, suc, ◌+◌, ◌^◌, length, ℤ, pos}
-use Rattle.integers.specs.ListSum.{tally, joined}
-use Rattle.integers.specs.Rounding.{floor, round_half_up}
+use Rattle.std.specs.Prelude.{List, [], ◌∷◌, ℕ, suc, ◌^◌}
+use Rattle.integers.specs.ListSum.{joined}
 use Rattle.edge.specs.declared.Edge.{Edge}
-use Rattle.curve.specs.Curve.{bend, splits_from, splits, chord_end}
+use Rattle.curve.specs.Curve.{bend, splits, chord_end}
 use Rattle.haar.specs.Pictures.{tabulate}
 use Rattle.accuracy.specs.Outline.{Point, edge_between}
 use Rattle.chords.specs.declared.Curve.{Curve}
 use Rattle.chords.specs.declared.Side.{Side}
 use Rattle.chords.specs.declared.Side.TheVariants.{Straight, Curved}
-use Rattle.chords.specs.Sides.{sides_from, MarkedContour, marked_contour, sides_of}
+use Rattle.chords.specs.Sides.{MarkedContour, sides_of}
 
 -- one k for both coordinates
 abbrev pub splits_of : Curve → ℕ

@@ -7,16 +7,12 @@
 --   side_near                    so they are of a side whose coordinates are on a sheet
 --   sides_near                   and so they are of every side of an outline whose coordinates, control points' too, are on a sheet
 use Rattle.std.specs.Prelude.{List}
-use Rattle.integers.specs.ListSum.{All, joined}
-use Rattle.integers.proofs.Theorems.ListSum.{all_map}
+use Rattle.integers.specs.ListSum.{joined}
 use Rattle.curve.specs.ChordsNear.{ChordsNear}
-use Rattle.curve.proofs.Theorems.ChordsNear.{curve_near}
-use Rattle.curve.specs.Curve.{OnSheet}
 use Rattle.chords.specs.declared.Side.{Side}
 use Rattle.chords.specs.declared.Side.TheVariants.{Straight, Curved}
 use Rattle.chords.specs.Sides.{MarkedContour, sides_of}
 use Rattle.chords.specs.Chords.{splits_of}
-use Rattle.chords.specs.Laws.SidesWithin.{Right, SideWithin, sides_within}
 
 abbrev pub NearChords : Side → Type 0
 NearChords (Straight e) = Unit {0}

@@ -8,12 +8,11 @@
 --   Amendable                    what the questions about the contour have answered, of a contour with marks
 -- Main results (the laws among them are in proofs/Theorems/Amending.antt)
 --   same_questions               what a call on a contour of points asks last are these
-use Rattle.std.specs.Prelude.{◌≡◌, refl, List, [], ◌∷◌, ℕ, ◌+◌, ◌≤◌, length, get_or, ℤ, pos, ◌*ℤ◌}
+use Rattle.std.specs.Prelude.{◌≡◌, List, [], ◌∷◌, ℕ, ◌+◌, ◌≤◌, length, get_or, ℤ, pos, ◌*ℤ◌}
 use Rattle.integers.specs.Units.{most_edges}
 use Rattle.edge.specs.declared.Edge.{Edge}
 use Rattle.placement.specs.declared.Placement.{Placement}
 use Rattle.placement.specs.Placed.{placed}
-use Rattle.accuracy.specs.Outline.{contour_edges}
 use Rattle.rasterize.specs.Added.{added}
 use Rattle.chords.specs.Sides.{numbers, marked_contour}
 use Rattle.chords.specs.Chords.{contour_chords}
@@ -22,7 +21,7 @@ use Rattle.tile.specs.Outcomes.{if_done}
 use Rattle.sheet.specs.declared.Site.{Site}
 use Rattle.sheet.specs.Sites.{tile_side, reach, SiteYes, entries_at}
 use Rattle.corrections.specs.declared.Change.{Change}
-use Rattle.corrections.specs.Corrections.{Tile, Call, tile_of, contour_of, sign_of, question13, question9_twice, already_in, taken_out, tile_questions, edges_after}
+use Rattle.corrections.specs.Corrections.{Tile, tile_of, sign_of, question13, question9_twice, already_in, taken_out, edges_after}
 
 abbrev pub left_by : Site → Change → List Edge → List ℤ → List ℤ
 left_by site change es table = added table (λ i. sign_of change *ℤ get_or (entries_at site es) i (pos 0))

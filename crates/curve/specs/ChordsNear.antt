@@ -9,13 +9,9 @@
 -- Main results (the laws among them are in proofs/Theorems/ChordsNear.antt)
 --   chords_near                  so it is where k makes the bend flat
 --   curve_near                   and so of both coordinates of a curve on a sheet, of as many chords as are made
-use Rattle.std.specs.Prelude.{◌≡◌, refl, [], ◌∷◌, ℕ, ◌*◌, ◌^◌, ◌<◌, ◌≤◌, ℤ, pos, ◌+ℤ◌, ◌-ℤ◌, ◌*ℤ◌, ◌≤ℤ◌}
-use Rattle.std.proofs.Common.{sym, ap}
-use Rattle.integers.proofs.Theorems.Ring.{read, comb, ◌⊗◌}
-use Rattle.integers.proofs.Theorems.Order.{nonneg, pos-≤ℤ}
+use Rattle.std.specs.Prelude.{ℕ, ◌*◌, ◌^◌, ◌<◌, ◌≤◌, ℤ, pos, ◌+ℤ◌, ◌-ℤ◌, ◌*ℤ◌, ◌≤ℤ◌}
 use Rattle.integers.specs.Magnitude.{abs}
-use Rattle.integers.proofs.Theorems.Within.{within_is, abs_of_within}
-use Rattle.curve.specs.Curve.{OnSheet, bend, curve_num, chord_num, IsFlat, splits}
+use Rattle.curve.specs.Curve.{curve_num, chord_num}
 
 -- Chord i, a / b of its way along, and the curve at the parameter (i + a / b) / 2^k; both 4^k b² times over, so that one step is 4^k b².
 pub record ChordsNear (p q r : ℤ) (k : ℕ) : Type 0 where

@@ -12,11 +12,11 @@
 --   splits_from m k u v           the search for it, from k on
 --   splits u v                   k: the least from 0 to 7 for which both bends are flat, and 7 where none is, which on a sheet does not happen
 --   chord_end p q r k i           end i of the 2^k chords, rounded to the nearest step, halves towards the larger
-use Rattle.std.specs.Prelude.{◌≡◌, refl, Bool, ◌&&◌, cond, ℕ, zero, suc, ◌*◌, ◌^◌, ℤ, pos, neg_ℤ, ◌+ℤ◌, ◌-ℤ◌, ◌*ℤ◌, ◌≤ℤ◌}
+use Rattle.std.specs.Prelude.{Bool, ◌&&◌, cond, ℕ, zero, suc, ◌*◌, ◌^◌, ℤ, pos, neg_ℤ, ◌+ℤ◌, ◌-ℤ◌, ◌*ℤ◌, ◌≤ℤ◌}
 use Rattle.integers.specs.Units.{greatest_sheet_coordinate, most_splits}
 use Rattle.integers.specs.Within.{Within}
 use Rattle.integers.specs.Tests.{between}
-use Rattle.integers.specs.Rounding.{floor, round_half_up}
+use Rattle.integers.specs.Rounding.{round_half_up}
 
 abbrev pub OnSheet : ℤ → Type 0
 OnSheet z = (pos 0 ≤ℤ z) × (z ≤ℤ pos greatest_sheet_coordinate)

@@ -10,24 +10,13 @@
 --   refused_curves_table                     a refusal carries the edge count 0, and the table keeps what it held
 --   question16_means, question3_marked_means,
 --   question5_chords_means                    what "yes" says
-use Rattle.std.specs.Prelude.{◌≡◌, List, [], ◌∷◌, map, ◌↔◌, ℕ, ◌+◌, ◌<◌, ◌≤◌, eqb, length, ℤ}
-use Rattle.std.proofs.Common.{arith}
-use Rattle.integers.specs.Units.{most_edges}
-use Rattle.integers.specs.ListSum.{All}
-use Rattle.integers.specs.Tests.{every, OneOf}
-use Rattle.integers.proofs.Theorems.Tests.{eqb_means, leb_means, and_means, every_means}
-use Rattle.edge.specs.declared.Edge.{Edge}
+use Rattle.std.specs.Prelude.{List, [], ◌∷◌, map, ℕ, ℤ}
+use Rattle.integers.specs.Tests.{OneOf}
 use Rattle.placement.specs.declared.Placement.{Placement}
-use Rattle.accuracy.specs.Outline.{edge_count}
-use Rattle.chords.specs.Sides.{numbers}
-use Rattle.tile.specs.Questions.{Yes}
-use Rattle.tile.proofs.Laws.IfDone.{if_refused}
-use Rattle.tile.proofs.Laws.FirstNo.{EachNumber, each_number, first_no_among}
+use Rattle.tile.proofs.Laws.FirstNo.{EachNumber}
 use Rattle.sheet.specs.declared.Site.{Site}
-use Rattle.sheet.specs.declared.Site.TheVariants.{Alone, OnSheet}
-use Rattle.sheet.specs.Sites.{entries_at}
-use Rattle.curves.specs.MarkedQuestions.{is_mark, question16, question3_marked, question5_chords, edges_marked, curve_questions}
-use Rattle.curves.specs.CurveOutcomes.{curves_refusal, curves_result, curves_table}
+use Rattle.curves.specs.MarkedQuestions.{curve_questions}
+use Rattle.curves.specs.CurveOutcomes.{curves_refusal}
 
 pub record CurveRefusals (site : Site) (points : List ℤ) (counts marks : List ℕ) (placement : Placement) (table : List ℤ) : Type 0 where
   pub each : EachNumber (curves_refusal site points counts marks placement table) [] (curve_questions site points counts marks placement 0 table)

@@ -6,19 +6,13 @@
 -- Main results (the laws among them are in proofs/Theorems/CurvedRefusals.antt)
 --   CurvedRefusals, curved_refusals    for a tile alone 1, 2, 4, 16, 3, 12, 6, 5, 13, 9; for a tile of a sheet 14, 15, 2, 4, 16, 3, 12, 6, 5, 13, 9
 --   refused_curve                      "A refused call changes nothing."
-use Rattle.std.specs.Prelude.{◌≡◌, List, [], ◌∷◌, ◌++◌, map, ℕ, ◌<◌, length, ℤ}
-use Rattle.std.proofs.Common.{arith}
+use Rattle.std.specs.Prelude.{List, [], ◌∷◌, ◌++◌, map, length}
 use Rattle.integers.specs.Tests.{OneOf}
-use Rattle.placement.specs.declared.Placement.{Placement}
 use Rattle.tile.specs.Questions.{Question}
-use Rattle.tile.proofs.Laws.IfDone.{if_refused}
-use Rattle.tile.proofs.Laws.FirstNo.{EachNumber, each_number, first_no_among}
-use Rattle.sheet.specs.declared.Site.{Site}
-use Rattle.sheet.specs.declared.Site.TheVariants.{Alone, OnSheet}
-use Rattle.corrections.specs.declared.Change.{Change}
+use Rattle.tile.proofs.Laws.FirstNo.{EachNumber}
 use Rattle.corrections.specs.Corrections.{Tile}
 use Rattle.corrections.specs.Amending.{amend_questions}
-use Rattle.curves.specs.CurvedCorrections.{CurveCall, curve_call_of, edges_in, curve_call_questions, correct_curve_refusal, corrected_curve}
+use Rattle.curves.specs.CurvedCorrections.{CurveCall, edges_in, curve_call_questions, correct_curve_refusal}
 
 -- all that a call asks, in order
 abbrev pub all_questions : CurveCall → Tile → List Question

@@ -12,7 +12,7 @@
 --   table_length                  how many entries the program's table has
 --   zeros n                      n zero bytes
 --   answer_length, answer_of t     a text in an array that holds the longest answer
-use Rattle.std.specs.Prelude.{◌≡◌, refl, List, [], ◌∷◌, ◌++◌, ℕ, ◌+◌, ◌*◌, ◌^◌, length, get_or, replicate, ℤ, pos}
+use Rattle.std.specs.Prelude.{List, [], ◌∷◌, ◌++◌, ℕ, ◌+◌, ◌*◌, ◌^◌, length, get_or, replicate, ℤ, pos}
 use Rattle.integers.specs.Units.{greatest_side}
 use Rattle.haar.specs.Greys.{grey_of}
 use Rattle.haar.specs.Plane.{picture_in}

@@ -4,16 +4,12 @@
 --   FrameRefusals, frame_refusals     when each number is that of a text, and that no other comes
 --   prints_refusal                    a refusal is printed where its number is the text's, and only there
 --   refused_keeps                     and the table keeps what it held
-use Rattle.std.specs.Prelude.{◌≡◌, List, [], ◌∷◌, ◌↔◌, ℕ, ◌<◌, ℤ}
+use Rattle.std.specs.Prelude.{◌≡◌, List, [], ◌∷◌, ◌↔◌, ℕ}
 use Rattle.integers.specs.ListSum.{All}
 use Rattle.tile.specs.Questions.{Yes, No, DecidedBy, question1, question4, question5, question6, question7}
 use Rattle.integers.specs.Tests.{OneOf}
-use Rattle.tile.proofs.Laws.IfDone.{if_refused}
-use Rattle.tile.proofs.Laws.FirstNo.{each_number, first_no_among}
-use Rattle.frame_text.specs.Over.{over}
 use Rattle.frame_text.specs.Reading.{frame_of}
-use Rattle.frame_text.specs.OutputLines.{refusal_text}
-use Rattle.frame.specs.Output.{question11, frame_questions, frame_refusal, frame_table, output_text, table_after}
+use Rattle.frame.specs.Output.{question11, frame_questions, frame_refusal}
 
 pub record FrameRefusals (t : List ℕ) : Type 0 where
   pub accepted : (frame_refusal t ≡ 0) ↔ All Yes (frame_questions t)

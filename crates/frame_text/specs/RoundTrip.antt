@@ -5,11 +5,9 @@
 --   read_written                 the text of a frame passes, and reading gives the frame back
 --   written_read                 a text that passes is the text of the frame that is read of it
 --   frame_texts                  so the texts that pass are those of frames, within the limit
-use Rattle.std.specs.Prelude.{◌≡◌, ℕ, ◌≤◌, true, ◌↔◌, List, length}
-use Rattle.std.proofs.Common.{sym, subst}
+use Rattle.std.specs.Prelude.{◌≡◌, ℕ, ◌≤◌, List, length}
 use Rattle.integers.specs.Units.{text_limit}
 use Rattle.frame_text.specs.Frames.{Frame, Writable, frame_text}
-use Rattle.frame_text.specs.Reading.{is_frame, frame_of}
 
 -- what it is to be the text of a frame
 pub record TextOfFrame (t : List ℕ) : Type 0 where

@@ -11,12 +11,11 @@
 -- Checks
 --   half_pixel, half_pixel_below half a pixel's ink has the grey 128, either way round
 --   full_pixel_below             a pixel's ink below zero has the full grey
-use Rattle.std.specs.Prelude.{◌≡◌, refl, ℕ, ◌+◌, ◌*◌, ◌<◌, ◌≤◌, ℤ, pos, neg_ℤ, nat_abs, ◌*ℤ◌}
+use Rattle.std.specs.Prelude.{◌≡◌, ℕ, ◌+◌, ◌*◌, ◌<◌, ◌≤◌, ℤ, pos, nat_abs, ◌*ℤ◌}
 use Rattle.integers.specs.Units.{units_per_pixel, full_grey}
-use Rattle.integers.specs.MinMax.{min, max}
 use Rattle.integers.specs.Magnitude.{abs}
 use Rattle.integers.specs.Clamp.{clamp}
-use Rattle.integers.specs.Rounding.{floor, round_half_up}
+use Rattle.integers.specs.Rounding.{round_half_up}
 
 -- Such a cell of level L has a 4^L-th of the tile's area, and its figure is 4^L times that: 131,072 × side × side, whatever L is.
 abbrev pub full : ℕ → ℕ

@@ -4,10 +4,7 @@
 --   all_below test k              the test holds of every number below k
 --   below                        and so of each of them: `below test k refl n h`
 --   both                         two tests that hold together hold each
-use Rattle.std.specs.Prelude.{◌≡◌, Bool, true, false, ◌&&◌, ℕ, zero, suc, ◌<◌}
-use Rattle.std.proofs.Common.{sym, true≢false, arith}
-use Rattle.std.proofs.Math.Path.{subst⁻¹}
-use Rattle.std.proofs.Math.Decide.{dec_lt}
+use Rattle.std.specs.Prelude.{Bool, true, ◌&&◌, ℕ, zero, suc}
 
 unfoldable pub all_below : (ℕ → Bool) → ℕ → Bool
 all_below test zero = true

@@ -8,12 +8,9 @@
 --   back_is                a number within a bound, read back
 --   within_back            and the bound of what is read back
 --   same_bits              numbers with the same bits are the same
-use Rattle.std.specs.Prelude.{◌≡◌, [], ◌∷◌, ℕ, ◌<◌, ◌^◌, ◌-◌, T, leb, ℤ, pos}
-use Rattle.std.proofs.Common.{sym, ◌∙◌, ap, leb→le, SFits, to_z, of_z, to_z-of_z}
-use Rattle.std.proofs.Math.Path.{subst⁻¹}
-use Rattle.std.specs.Int.Signed.{mag}
+use Rattle.std.specs.Prelude.{ℕ, ◌^◌, ◌-◌, ℤ}
+use Rattle.std.proofs.Common.{to_z, of_z}
 use Rattle.std.specs.Int.{w64}
-use Rattle.integers.specs.Within.{Within}
 
 abbrev pub back : ℤ → ℤ
 back z = to_z w64 (of_z w64 z)

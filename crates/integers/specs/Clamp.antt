@@ -7,11 +7,8 @@
 --   clamp_parts, clamp-halves, clamp_tiles          of a width in two parts, two halves or m equal parts: what is held to each of them, added up
 --   clamp_scale                                     a factor that is not negative comes out
 --   clamp-step-inside, clamp-step_outside           as v moves up by one, it moves by one from 0 up to m, and elsewhere not at all
-use Rattle.std.specs.Prelude.{◌≡◌, refl, List, [], ◌∷◌, ◌⊎◌, ℕ, zero, suc, ℤ, pos, ◌+ℤ◌, ◌-ℤ◌, ◌*ℤ◌, ◌≤ℤ◌, ◌<ℤ◌}
-use Rattle.std.proofs.Common.{sym, ◌∙◌, ap, inl, inr}
-use Rattle.integers.specs.Within.{Within}
+use Rattle.std.specs.Prelude.{◌≡◌, ℤ, pos, ◌≤ℤ◌}
 use Rattle.integers.specs.MinMax.{min, max}
-use Rattle.integers.specs.RangeSum.{Σ<}
 
 unfoldable pub clamp : ℤ → ℤ → ℤ → ℤ
 clamp v lo hi = max lo (min v hi)

@@ -5,11 +5,7 @@
 --   truncated-neg            the same on both sides of zero
 --   quot_fits, rem_fits      q and r fit where n does
 --   shift_quot               a shift to the right divides too, what is not negative
-use Rattle.std.specs.Prelude.{◌≡◌, refl, [], ◌∷◌, ℕ, zero, suc, ◌/◌, ◌%◌, ◌<◌, ◌≤◌, ℤ, pos, negsuc, neg_ℤ, ◌+ℤ◌, ◌*ℤ◌, ◌≤ℤ◌, ◌<ℤ◌}
-use Rattle.std.proofs.Common.{ap, arith, le_trans, lt_of_le_of_lt, mod-lt, div-le_self, ltb→lt, SFits}
-use Rattle.std.proofs.Math.Nat.{div-add-mod, mod-le}
-use Rattle.std.specs.Int.Signed.{mag, quot_z, rem_z, shr_z, mag_rem}
-use Rattle.std.specs.Int.{Width}
+use Rattle.std.specs.Prelude.{◌≡◌, ℤ, pos, neg_ℤ, ◌+ℤ◌, ◌*ℤ◌, ◌≤ℤ◌, ◌<ℤ◌}
 
 pub record Truncated (n d q r : ℤ) : Type 0 where
   pub whole : n ≡ q *ℤ d +ℤ r

@@ -8,14 +8,10 @@
 -- Main results (the laws among them are in proofs/Theorems/Elimination.antt)
 --   eliminate           the elimination, which computes
 --   eliminate_sound     facts that it refutes do not all hold
-use Rattle.std.specs.Prelude.{◌≡◌, refl, List, [], ◌∷◌, Bool, true, false, ◌||◌, T, leb, ℤ, pos, negsuc, nat_abs, ◌+ℤ◌, ◌*ℤ◌, ◌≤ℤ◌}
-use Rattle.std.proofs.Common.{sym, ◌∙◌, ap, subst}
-use Rattle.std.proofs.Math.Path.{subst⁻¹}
+use Rattle.std.specs.Prelude.{List, [], ◌∷◌, Bool, true, false, ◌||◌, leb, ℤ, pos, negsuc, nat_abs, ◌≤ℤ◌}
 use Rattle.std.proofs.Math.Option.{Option, none, some}
 use Prim.Native.Nat.{ℕ, zero, suc, ◌*◌, Ordering}
-use Rattle.std.proofs.Math.IntN.{+ℤ_idl, +ℤ_idr, zero-*ℤ}
-use Rattle.std.specs.Int.Signed.{≤ℤ_refl}
-use Rattle.integers.specs.Polynomial.{Monomial, Polynomial, nil, term, compare_m, eval_m, eval_p, scale_p}
+use Rattle.integers.specs.Polynomial.{Monomial, Polynomial, nil, term, compare_m, eval_p, scale_p}
 
 -- ---- polynomials without terms that are 0
 abbrev pub keep : ℤ → Monomial → Polynomial → Polynomial

@@ -7,16 +7,10 @@
 --   numer_whole                                 whole numbers add up as whole numbers
 --   numer_append, numer_perm                    of two lists one after the other; the same in any order
 --   common-map, numer-map                       of a list in which each element was made of another
-use Rattle.std.specs.Prelude.{◌≡◌, ℤ}
-use Rattle.std.proofs.Math.Path.{refl, sym, ap, ap₂}
-use Rattle.std.proofs.Common.{◌∙◌, one-mul, mul_assoc}
-use mathlib.Core.List.{List, [], ◌∷◌, ◌++◌, map, Perm, Permᴰ}
-use Rattle.std.proofs.Math.Logic.{∥∥₁_elim}
-use Prim.Native.Nat.{ℕ, ◌*◌, ◌<◌}
-use native.Mathlib.Omega.{arith}
-use Rattle.std.proofs.Math.Nat.{ℕ_set, mul-pos, mul_left_comm}
-use Rattle.std.proofs.Math.IntN.{pos, ◌+ℤ◌, ◌*ℤ◌, ℤ_set}
-use Rattle.integers.specs.ListSum.{All, total}
+use Rattle.std.specs.Prelude.{ℤ}
+use mathlib.Core.List.{List, [], ◌∷◌}
+use Prim.Native.Nat.{ℕ, ◌*◌}
+use Rattle.std.proofs.Math.IntN.{pos, ◌+ℤ◌, ◌*ℤ◌}
 
 unfoldable pub common : {A : Type 0} → (A → ℕ) → List A → ℕ
 common N [] = 1

@@ -3,8 +3,7 @@
 -- Main results (the laws among them are in proofs/Theorems/HalfSign.antt)
 --   half_sign                        1 in half 0, −1 in half 1
 --   half_sign_cases                  it is one of the two, in a half that there is
-use Rattle.std.specs.Prelude.{◌≡◌, refl, ◌⊎◌, ℕ, zero, suc, ◌<◌, ℤ, pos, negsuc, ◌-ℤ◌, ◌*ℤ◌}
-use Rattle.std.proofs.Common.{inl, inr, arith}
+use Rattle.std.specs.Prelude.{ℕ, ℤ, pos, ◌-ℤ◌, ◌*ℤ◌}
 
 abbrev pub half_sign : ℕ → ℤ
 half_sign b = pos 1 -ℤ pos 2 *ℤ pos b

@@ -6,12 +6,8 @@
 --   held-add, held_sub, held-neg, held-mul          what an operation gives
 --   held_fits, held_back                            it fits where b does, and is the same when read back
 --   held_within                                     the bound, of z
-use Rattle.std.specs.Prelude.{◌≡◌, [], ◌∷◌, ℕ, ◌+◌, ◌*◌, T, leb, ℤ, pos, neg_ℤ, ◌+ℤ◌, ◌-ℤ◌, ◌*ℤ◌}
-use Rattle.std.proofs.Common.{◌∙◌, ap, ap₂, SFits}
-use Rattle.std.proofs.Math.Path.{subst⁻¹}
-use Rattle.std.specs.Int.{w64}
+use Rattle.std.specs.Prelude.{◌≡◌, ℕ, ℤ, pos}
 use Rattle.integers.specs.Within.{Within}
-use Rattle.integers.specs.Bits.{back, greatest}
 
 pub record Held (b : ℕ) (z v : ℤ) : Type 0 where
   pub is : z ≡ v

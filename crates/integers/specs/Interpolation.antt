@@ -2,12 +2,7 @@
 --
 -- Main results (the laws among them are in proofs/Theorems/Interpolation.antt)
 --   clamp_interpolates, tent_interpolates      at r of k equal parts of a step, k times the value lies r / k of the way from one end's to the other's
-use Rattle.std.specs.Prelude.{◌≡◌, [], ◌∷◌, ◌⊎◌, ℕ, ◌≤◌, ℤ, pos, negsuc, ◌+ℤ◌, ◌-ℤ◌, ◌*ℤ◌, ◌≤ℤ◌, ◌<ℤ◌}
-use Rattle.std.proofs.Common.{sym, ◌∙◌, ap, ap₂, inl, inr}
-use Rattle.std.proofs.Math.Path.{subst⁻¹}
-use Rattle.integers.specs.Within.{Within}
-use Rattle.integers.specs.Clamp.{clamp}
-use Rattle.integers.specs.Tent.{tent}
+use Rattle.std.specs.Prelude.{◌≡◌, ℕ, ℤ, pos, ◌+ℤ◌, ◌-ℤ◌, ◌*ℤ◌}
 
 -- f, which counts k times as finely as F, at r of the k parts of the way from v to v + s: k times F, interpolated linearly
 abbrev pub Interpolates : (ℤ → ℤ) → (ℤ → ℤ) → ℤ → ℤ → ℕ → ℕ → Type 0

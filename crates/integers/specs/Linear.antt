@@ -10,12 +10,10 @@
 -- Where there are too many facts to eliminate, a sum of multiples by hand is one: `le (2 · h ⊹ 3 · k)`. `Tour` has each at work.
 --
 -- How it goes: the goal's negation joins the facts, and `Elimination` refutes them together. So a fact that is not needed costs time alone.
-use Rattle.std.specs.Prelude.{◌≡◌, List, [], ◌∷◌, ◌⊎◌, ℕ, ℤ, pos, ◌+ℤ◌, ◌-ℤ◌, ◌*ℤ◌, ◌≤ℤ◌, ◌<ℤ◌}
-use Rattle.std.proofs.Common.{sym, ◌∙◌, ap₂, subst, inl, inr}
-use Rattle.integers.specs.Polynomial.{◌⊟◌, Polynomial, eval_p, normal}
+use Rattle.std.specs.Prelude.{List, [], ◌∷◌, ℕ, ℤ, pos, ◌+ℤ◌, ◌≤ℤ◌}
+use Rattle.integers.specs.Polynomial.{◌⊟◌, Polynomial, normal}
 use Rattle.integers.specs.Ring.{Reads, read_add, read_pos, expr}
-use Rattle.integers.specs.Order.{Gap}
-use Rattle.integers.specs.Elimination.{tidy, Refuted, eliminate, Hold}
+use Rattle.integers.specs.Elimination.{tidy, Refuted, eliminate}
 
 -- How many monomials may be eliminated in one call: the elimination recurses on this number, and so ends. It is room for the sixteen atoms that
 -- `read` has lemmas for and for fourteen products of them; a goal that is refused with more unknowns than that wants it raised.

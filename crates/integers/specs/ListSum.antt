@@ -15,16 +15,9 @@
 --   joined f l                        the lists that f makes of l's elements, one after the other
 --   total-joined, all_joined,
 --   length-joined                     a sum over it, a property of all its elements, its length
-use Rattle.std.specs.Prelude.{◌≡◌, ℕ, zero, suc, ◌+◌, ◌*◌, ◌<◌, get_or, take, drop, ℤ, nat_abs, ◌*ℤ◌}
-use Rattle.std.proofs.Math.Path.{refl, ap, ap₂}
-use Rattle.std.proofs.Common.{sym, ◌∙◌, arith}
-use mathlib.Core.List.{List, [], ◌∷◌, ◌++◌, map, Perm, Permᴰ}
-use Rattle.std.proofs.Math.Logic.{∥∥₁_elim}
-use Rattle.std.proofs.Math.ListN.{length, length-append}
-use Rattle.std.proofs.Math.IntN.{pos, neg_ℤ, ◌+ℤ◌, ℤ_set}
-use Rattle.std.specs.Int.Signed.{≤ℤ_refl}
-use Rattle.integers.specs.Within.{Within}
-use Rattle.integers.specs.RangeSum.{Σ<}
+use Rattle.std.specs.Prelude.{ℕ, ◌+◌, ℤ}
+use mathlib.Core.List.{List, [], ◌∷◌, ◌++◌}
+use Rattle.std.proofs.Math.IntN.{pos, ◌+ℤ◌}
 
 -- ---- every element has the property
 abbrev pub All : {A : Type 0} → (A → Type 0) → List A → Type 0

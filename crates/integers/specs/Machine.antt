@@ -9,14 +9,13 @@
 --   box h k i j                                            what two bounds on each factor say of a product, as facts
 --   search tests                                           the order of two values that a comparison which was taken, or not, gives
 --   known, bits_pos                                        a number that fits, read back; a positive number's bits are not 0
-use Rattle.std.specs.Prelude.{◌≡◌, refl, List, Bool, true, false, ℕ, zero, suc, ◌+◌, ◌-◌, ◌^◌, ◌<◌, ◌≤◌, T, ℤ, pos, negsuc, neg_ℤ, ◌+ℤ◌, ◌-ℤ◌, ◌*ℤ◌, ◌≤ℤ◌, ◌<ℤ◌}
-use Rattle.std.proofs.Common.{sym, ◌∙◌, ap₂, arith, ltb→lt, leb→le, le→leb, to_z-of_z}
-use Rattle.std.specs.Int.Signed.{mag, le_z, lt_z, le_z_yes}
+use Rattle.std.specs.Prelude.{refl, List, ◌-◌, ◌^◌, ℤ, pos, neg_ℤ, ◌-ℤ◌, ◌*ℤ◌}
+use Rattle.std.proofs.Common.{sym, ◌∙◌, to_z-of_z}
 use Rattle.std.specs.Int.{Width}
 use mir.Val.{SFits, hbits, to_z, of_z}
 use Rattle.integers.specs.Polynomial.{lit}
 use Rattle.integers.specs.Ring.{Reads, reads}
-use Rattle.integers.specs.Linear.{Ineqs, end, more, Facts, Hyps, next, Refutes≤}
+use Rattle.integers.specs.Linear.{Ineqs, end, more, Hyps, next, Refutes≤}
 
 -- ---- values, and their bits
 abbrev pub read_back : {ρ : List ℤ} {z : ℤ} {w : Width} → SFits w z → Reads ρ z → Reads ρ (to_z w (of_z w z))

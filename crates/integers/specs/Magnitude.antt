@@ -6,9 +6,7 @@
 --   abs-pos, abs_neg, abs-mul       of a natural number, a negation, a product
 --   abs-triangle, abs-difference    of a sum; of a difference
 --   nat_abs_mul, nat_abs-triangle     of a product and of a sum, as natural numbers
-use Rattle.std.specs.Prelude.{◌≡◌, refl, [], ◌∷◌, ℕ, zero, suc, ◌+◌, ◌*◌, ◌≤◌, ℤ, pos, negsuc, neg_ℤ, nat_abs, ◌+ℤ◌, ◌-ℤ◌, ◌*ℤ◌, ◌≤ℤ◌}
-use Rattle.std.proofs.Common.{ap, subst, leb→le}
-use Rattle.std.specs.Int.Signed.{le_z_yes}
+use Rattle.std.specs.Prelude.{◌≡◌, ℤ, pos, neg_ℤ, nat_abs, ◌≤ℤ◌}
 
 unfoldable pub abs : ℤ → ℤ
 abs z = pos (nat_abs z)

@@ -7,12 +7,8 @@
 --   min_eqˡ, min_eqʳ, max_eqˡ, max_eqʳ      where the order is known
 --   min_scale                               a factor that is not negative comes out
 --   min_moves, max_moves                    neither moves by more than its two arguments do
-use Rattle.std.specs.Prelude.{◌≡◌, refl, [], ◌∷◌, Bool, true, false, cond, ℤ, pos, negsuc, neg_ℤ, ◌-ℤ◌, ◌*ℤ◌, ◌≤ℤ◌}
-use Rattle.std.proofs.Common.{sym, ◌∙◌, ap}
-use Rattle.std.proofs.Math.Path.{subst⁻¹}
-use Rattle.std.proofs.Math.IntN.{neg_ℤ-neg_ℤ}
+use Rattle.std.specs.Prelude.{◌≡◌, cond, ℤ}
 use Rattle.std.specs.Int.Signed.{le_z}
-use Rattle.integers.specs.Within.{Within}
 
 unfoldable pub min : ℤ → ℤ → ℤ
 min a b = cond (le_z a b) a b

@@ -10,12 +10,7 @@
 --   pos-≤ℤ, ≤_of_pos, nonneg, positive      with the order of ℕ
 --   le_z-true .. lt_z-false                   what a test that computes says of its two numbers
 -- Of < nothing more is needed: it is a + 1 ≤ b to `Linear`. `lib.Signed` has `<ℤ-≤ℤ_trans` and `<ℤ_irrefl`.
-use Rattle.std.specs.Prelude.{◌≡◌, refl, [], ◌∷◌, ◌⊎◌, Bool, true, false, cond, not, ℕ, zero, suc, ◌+◌, ◌*◌, ◌-◌, ◌<◌, ◌≤◌, T, leb, ltb, ℤ, pos, negsuc, neg_ℤ, ◌+ℤ◌, ◌-ℤ◌, ◌*ℤ◌, ◌≤ℤ◌, ◌<ℤ◌}
-use Rattle.std.proofs.Common.{sym, ◌∙◌, ap, ap₂, subst, inl, inr, arith, leb→le, le→leb, ltb→lt, lt→ltb}
-use Rattle.std.proofs.Math.Path.{subst⁻¹}
-use Rattle.std.proofs.Math.Dec.{nleb→lt}
-use Rattle.std.proofs.Math.IntN.{suc_ℤ, +ℤ_one}
-use Rattle.std.specs.Int.Signed.{le_z, lt_z, le_z_yes, lt_z_yes, lt_z_no, ≤ℤ_refl}
+use Rattle.std.specs.Prelude.{◌≡◌, ℕ, ℤ, pos, ◌+ℤ◌}
 
 -- ---- a ≤ b is b = a + n
 abbrev pub Gap : ℤ → ℤ → Type 0

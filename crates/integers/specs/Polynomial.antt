@@ -8,11 +8,8 @@
 --   eval_normal     an expression and its polynomial have the same value
 --   eval_scale      the value of c · m · p + q, by which `Elimination` multiplies inequalities
 --   same_value      expressions whose difference vanishes have the same value
-use Rattle.std.specs.Prelude.{◌≡◌, refl, List, [], ◌∷◌, T, ℤ, pos, negsuc, neg_ℤ, ◌+ℤ◌, ◌*ℤ◌}
-use Rattle.std.proofs.Common.{sym, ◌∙◌, ap, ap₂, eqb→eq}
+use Rattle.std.specs.Prelude.{List, [], ◌∷◌, ℤ, pos, negsuc, neg_ℤ, ◌+ℤ◌, ◌*ℤ◌}
 use Prim.Native.Nat.{ℕ, zero, suc, compare, Ordering}
-use Rattle.std.proofs.Math.Dec.{compare_is_eq}
-use Rattle.std.proofs.Math.IntN.{neg_ℤ-+ℤ, +ℤ_idl, +ℤ_idr, +ℤ_assoc, zero-*ℤ, *ℤ-zero}
 
 -- ---- expressions, and their values where the variables have the values ρ
 infixl 6 ◌⊞◌ ◌⊟◌

@@ -11,12 +11,7 @@
 --   Σ-swap                             two sums, in the other order
 --   Σ_one                              where all terms but one are 0, the sum is that one
 --   Σ_within                           n terms within b add up to within n times b
-use Rattle.std.specs.Prelude.{◌≡◌, refl, [], ◌∷◌, ◌≢◌, ℕ, zero, suc, ◌+◌, ◌*◌, ◌^◌, ◌<◌, ℤ, pos, neg_ℤ, ◌+ℤ◌, ◌-ℤ◌, ◌*ℤ◌}
-use Rattle.std.proofs.Common.{sym, ◌∙◌, ap, ap₂, add-suc, add-zero, zero-mul, suc-mul, pow-suc, arith}
-use Rattle.std.proofs.Math.Decide.{ℕ_discrete}
-use Rattle.std.proofs.Math.IntN.{*ℤ-zero, +ℤ_idl, +ℤ_idr}
-use Rattle.std.specs.Int.Signed.{≤ℤ_refl}
-use Rattle.integers.specs.Within.{Within}
+use Rattle.std.specs.Prelude.{ℕ, zero, suc, ℤ, pos, ◌+ℤ◌}
 
 unfoldable pub Σ< : ℕ → (ℕ → ℤ) → ℤ
 Σ< zero f = pos 0

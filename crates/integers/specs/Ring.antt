@@ -9,9 +9,8 @@
 --
 -- How a goal is read. `Reads ρ z` holds an expression whose value at ρ is z. There is one lemma for each operation, and the library's
 -- `search` applies them backwards from the goal, so the expression is found and not written.
-use Rattle.std.specs.Prelude.{◌≡◌, refl, List, ◌∷◌, ℕ, suc, ◌+◌, ◌*◌, T, eqb, ℤ, pos, negsuc, neg_ℤ, ◌+ℤ◌, ◌-ℤ◌, ◌*ℤ◌}
-use Rattle.std.proofs.Common.{sym, ◌∙◌, ap, ap₂, add-one}
-use Rattle.std.proofs.Math.IntN.{+ℤ-neg_ℤ_cancel, +ℤ_comm}
+use Rattle.std.specs.Prelude.{◌≡◌, refl, List, ◌∷◌, ℕ, suc, ◌+◌, ◌*◌, T, eqb, ℤ, pos, negsuc, neg_ℤ, ◌+ℤ◌, ◌*ℤ◌}
+use Rattle.std.proofs.Common.{◌∙◌, ap, ap₂, add-one}
 use Rattle.integers.specs.Polynomial.{Expr, var, lit, ◌⊞◌, ◌⊠◌, ⊖◌, ⟦◌⟧, Same}
 
 pub data Reads (ρ : List ℤ) (z : ℤ) : Type 0 where

@@ -10,13 +10,7 @@
 --   round_half_away_within              at most b in magnitude where n is at most d b
 --   error_neg                         an error is the same on both sides of zero
 -- `NearestAway` has that it is nearest, halves away from zero, and that no other number is.
-use Rattle.std.specs.Prelude.{◌≡◌, refl, ◌⊎◌, [], ◌∷◌, ℕ, zero, suc, ◌+◌, ◌*◌, ◌<◌, ◌≤◌, ℤ, pos, negsuc, neg_ℤ, nat_abs, ◌+ℤ◌, ◌-ℤ◌, ◌*ℤ◌, ◌≤ℤ◌, ◌<ℤ◌}
-use Rattle.std.proofs.Common.{sym, ◌∙◌, ap, subst, inl, inr, arith, mod-lt, ltb→lt}
-use Rattle.std.proofs.Math.Nat.{div-add-mod, div-eq_of_lt, div-eq_of_lt-le}
-use Rattle.std.proofs.Math.IntN.{neg_ℤ-neg_ℤ}
-use Rattle.integers.specs.Magnitude.{abs}
-use Rattle.integers.specs.Within.{Within}
-use Rattle.integers.specs.Rounding.{nearestℕ, round_half_away}
+use Rattle.std.specs.Prelude.{ℤ, pos, ◌-ℤ◌, ◌*ℤ◌, ◌≤ℤ◌, ◌<ℤ◌}
 
 -- ---- the error
 pub record ErrorBounds (n d q : ℤ) : Type 0 where

@@ -9,11 +9,7 @@
 --   round_half_up-eq                       equal fractions have the same rounding
 --   round_half_up-add, round_half_up-mul     a whole number added comes out; exact on multiples
 --   round_half_up_one_apart                a fraction at most one above another has a rounding at most one above the other's
-use Rattle.std.specs.Prelude.{◌≡◌, ◌⊎◌, [], ◌∷◌, ℕ, ◌*◌, ◌/◌, ◌<◌, ℤ, pos, negsuc, ◌+ℤ◌, ◌-ℤ◌, ◌*ℤ◌, ◌≤ℤ◌, ◌<ℤ◌}
-use Rattle.std.proofs.Common.{sym, subst, inl, inr, arith, mod-lt}
-use Rattle.std.proofs.Math.Nat.{div-add-mod}
-use Rattle.std.specs.Int.Signed.{≤ℤ_refl}
-use Rattle.integers.specs.Rounding.{floor, round_half_up}
+use Rattle.std.specs.Prelude.{ℤ, pos, ◌-ℤ◌, ◌*ℤ◌, ◌≤ℤ◌, ◌<ℤ◌}
 
 -- ---- the error
 pub record UpBounds (n d q : ℤ) : Type 0 where

@@ -11,10 +11,7 @@
 --   looked_last                            where the count is the length it does not tell whether the last element passes, and so the search answers both
 --   rest_immaterial                        where an element fails, what comes after those that were looked at makes no difference to either answer
 --   looked_fails, looked_next, looked_end  for a loop: the element at i fails; it passes; there is none
-use Rattle.std.specs.Prelude.{◌≡◌, refl, ◌↔◌, ◌⊎◌, Bool, true, false, ◌&&◌, cond, List, [], ◌∷◌, ◌++◌, ℕ, zero, suc, ◌+◌, ◌<◌, ◌≤◌, length, get_or, take, drop}
-use Rattle.std.proofs.Common.{sym, ◌∙◌, ap, inl, inr, true≢false, add-one, arith, drop_of_length-le, drop-cons}
-use Rattle.integers.specs.ListSum.{All}
-use Rattle.integers.specs.Tests.{every}
+use Rattle.std.specs.Prelude.{Bool, cond, List, [], ◌∷◌, ℕ, suc, ◌<◌, length, get_or}
 
 abbrev pub looked_at : {A : Type 0} → (A → Bool) → List A → ℕ
 looked_at test [] = 0

@@ -9,10 +9,7 @@
 --   tent_scale                                 a factor that is not negative comes out
 --   tent-step-left, tent-step-right,
 --   tent-step_outside                          as v moves up by one, it rises by one in the left half, falls by one in the right half, and rests outside
-use Rattle.std.specs.Prelude.{◌≡◌, refl, [], ◌∷◌, ◌⊎◌, ℕ, zero, suc, ◌<◌, ℤ, pos, negsuc, ◌+ℤ◌, ◌-ℤ◌, ◌*ℤ◌, ◌≤ℤ◌, ◌<ℤ◌}
-use Rattle.std.proofs.Common.{sym, ◌∙◌, ap, inl, inr, arith}
-use Rattle.std.proofs.Math.IntN.{+ℤ_idr}
-use Rattle.integers.specs.Within.{Within}
+use Rattle.std.specs.Prelude.{ℤ, pos, ◌-ℤ◌}
 use Rattle.integers.specs.MinMax.{min}
 use Rattle.integers.specs.Clamp.{clamp}
 

@@ -12,11 +12,8 @@
 --   no_means                                        false exactly where the proposition does not hold
 --   same_means                                      two tests of one proposition are the same
 --   within_neg_same                                 −z is from −b to b exactly where z is
-use Rattle.std.specs.Prelude.{◌≡◌, refl, List, [], ◌∷◌, ◌↔◌, ◌⊎◌, Bool, true, false, ◌&&◌, ◌||◌, ℕ, ◌<◌, ◌≤◌, T, eqb, leb, ltb, ℤ, neg_ℤ, ◌≤ℤ◌}
-use Rattle.std.proofs.Common.{sym, inl, inr, ⊎_elim, true≢false, eqb-true, leb-true, ltb-true, eq-eqb, le-leb, lt-ltb}
+use Rattle.std.specs.Prelude.{◌≡◌, List, [], ◌∷◌, ◌⊎◌, Bool, true, false, ◌&&◌, ◌||◌, ℕ, eqb, ℤ}
 use Rattle.std.specs.Int.Signed.{le_z}
-use Rattle.integers.specs.Within.{Within}
-use Rattle.integers.specs.ListSum.{All}
 
 abbrev pub every : {A : Type 0} → (A → Bool) → List A → Bool
 every test [] = true

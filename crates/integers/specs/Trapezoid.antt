@@ -11,8 +11,7 @@
 --   S-affine, S-piece                            a range where f and g are affine is one step from end to end
 --   affine_of_step                               a function that moves by the same at each step is affine
 --   S_zeroˡ, S_constʳ                            f is 0, or g does not move: nothing is summed
-use Rattle.std.specs.Prelude.{◌≡◌, refl, [], ◌∷◌, ℕ, zero, suc, ◌+◌, ◌<◌, ◌≤◌, ℤ, pos, negsuc, ◌+ℤ◌, ◌-ℤ◌, ◌*ℤ◌}
-use Rattle.std.proofs.Common.{sym, ◌∙◌, ap, ap₂, add-suc, add-zero, arith}
+use Rattle.std.specs.Prelude.{◌≡◌, ℕ, suc, ◌≤◌, ℤ, pos, ◌+ℤ◌, ◌-ℤ◌, ◌*ℤ◌}
 use Rattle.integers.specs.RangeSum.{Σ<}
 
 -- one step's part

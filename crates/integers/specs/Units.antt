@@ -12,7 +12,7 @@
 --   parts_per_step, factor_limit, offset_limit, movable_limit,
 --   placed_limit                                                     placements
 --   most_splits, most_chords                                          curves
-use Rattle.std.specs.Prelude.{◌≡◌, refl, ℕ, ◌+◌, ◌*◌, ◌^◌}
+use Rattle.std.specs.Prelude.{ℕ, ◌+◌, ◌*◌, ◌^◌}
 
 -- ---- length: "A step is 1/256 pixel." Coordinates are whole steps.
 abbrev pub steps_per_pixel : ℕ

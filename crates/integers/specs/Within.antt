@@ -9,10 +9,7 @@
 --   within_abs                                                       of two numbers within b of each other, the magnitudes are so too
 --   zero_of_within                                                   within 0 is 0
 --   bounds                                                           as facts for `lin≤`
-use Rattle.std.specs.Prelude.{◌≡◌, refl, [], ◌∷◌, ◌⊎◌, ℕ, ◌≤◌, ℤ, pos, negsuc, neg_ℤ, nat_abs, ◌+ℤ◌, ◌-ℤ◌, ◌*ℤ◌, ◌≤ℤ◌}
-use Rattle.std.proofs.Common.{sym, subst, subst₂, inl, inr}
-use Rattle.integers.specs.Linear.{end, more, Facts}
-use Rattle.integers.specs.Magnitude.{abs}
+use Rattle.std.specs.Prelude.{ℤ, neg_ℤ, ◌≤ℤ◌}
 
 pub record Within (b x : ℤ) : Type 0 where
   pub low : neg_ℤ b ≤ℤ x

@@ -11,15 +11,12 @@
 --   every-product_and_sum_is_exact       of a usable row and a point that may be moved
 --   exactly_moved                        of every point of every outline of which question 12 is answered yes
 --   exactly_tested                       of every float from −16,384 to 16,384, whether it is a multiple of 1/65,536 or not
-use Rattle.std.specs.Prelude.{◌≡◌, ℕ, ◌+◌, ◌*◌, ◌<◌, ◌≤◌, true, T, List, [], ◌∷◌, length, ℤ, pos, ◌+ℤ◌, ◌*ℤ◌, slice_index_or, unsigned_abs, Float}
-use Rattle.std.proofs.Common.{mul-le-mul, le_trans, lt_of_le_of_lt, arith, lit<, lit≤}
+use Rattle.std.specs.Prelude.{◌≡◌, ℕ, ℤ, pos, ◌+ℤ◌, ◌*ℤ◌, Float}
 use Rattle.std.specs.Float.{binary64}
-use Rattle.std.specs.Float.Ieee.{fits, of_int, mul, add, to_signed}
-use Rattle.std.specs.Float.Ieee.Fits.{add-fits}
-use Rattle.integers.specs.Units.{parts_per_step, factor_limit, offset_limit, movable_limit, placed_limit}
-use Rattle.placement.specs.Parts.{Value, parts_of, is_multiple, Inside, InParts, part_bits, per_step, one, nought}
-use Rattle.placement.specs.Placed.{parts_at, placeable}
-use Rattle.placement.specs.Ready.{Ready}
+use Rattle.std.specs.Float.Ieee.{of_int, mul, add, to_signed}
+use Rattle.integers.specs.Units.{parts_per_step}
+use Rattle.placement.specs.Parts.{Value, parts_of, InParts, per_step, one, nought}
+use Rattle.placement.specs.Placed.{parts_at}
 use Rattle.placement.specs.declared.Placement.{Placement}
 use Rattle.placement.specs.declared.Placement.TheVariants.{None, Shift, Scale, Turn}
 

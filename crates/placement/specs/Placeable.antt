@@ -6,15 +6,10 @@
 --   Placeable p points           question 12, by the kind of placement
 -- Main results (the laws among them are in proofs/Theorems/Placeable.antt)
 --   placeable_means              it is answered yes exactly then
-use Rattle.std.specs.Prelude.{◌≡◌, ◌-◌, true, false, ◌↔◌, List, [], ◌∷◌, ℤ, pos, negsuc, neg_ℤ, ◌≤ℤ◌, refl, Float}
-use Rattle.std.specs.Float.{fin}
+use Rattle.std.specs.Prelude.{◌-◌, List, ℤ, pos, neg_ℤ, ◌≤ℤ◌, Float}
 use Rattle.integers.specs.Units.{factor_limit, offset_limit, movable_limit}
 use Rattle.integers.specs.ListSum.{All}
-use Rattle.integers.specs.Rounding.{floor, round_half_up}
-use Rattle.integers.specs.Tests.{every}
-use Rattle.integers.proofs.Theorems.Tests.{and_means, every_means, between_means}
-use Rattle.placement.specs.Parts.{parts_of, is_multiple, Multiple, one, nought}
-use Rattle.placement.specs.Placed.{row_usable, is_movable, placeable, placed}
+use Rattle.placement.specs.Parts.{Multiple}
 use Rattle.placement.specs.declared.Placement.{Placement}
 use Rattle.placement.specs.declared.Placement.TheVariants.{None, Shift, Scale, Turn}
 

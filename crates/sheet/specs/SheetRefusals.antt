@@ -7,21 +7,15 @@
 --   refused_sheet_table              a refusal carries the edge count 0, and the table keeps what it held
 --   question14_means,
 --   question15_means                 what "yes" says
-use Rattle.std.specs.Prelude.{◌≡◌, ◌&&◌, List, [], ◌∷◌, ◌↔◌, ℕ, ◌/◌, ◌<◌, ◌≤◌, leb, ltb, ℤ}
-use Rattle.std.proofs.Common.{arith}
+use Rattle.std.specs.Prelude.{◌≡◌, List, [], ◌∷◌, ◌↔◌, ℕ, ℤ}
 use Rattle.integers.specs.ListSum.{All}
-use Rattle.integers.specs.Tests.{one_of, OneOf}
-use Rattle.integers.proofs.Theorems.Tests.{one_of_means, leb_means, ltb_means, and_means}
+use Rattle.integers.specs.Tests.{OneOf}
 use Rattle.placement.specs.declared.Placement.{Placement}
 use Rattle.placement.specs.Placed.{placed}
-use Rattle.accuracy.specs.Outline.{edge_count}
 use Rattle.tile.specs.Questions.{Question, Yes, No, DecidedBy, question2, question3, question4, question5, question6, question12}
-use Rattle.tile.specs.Outcomes.{edges_of}
-use Rattle.tile.proofs.Laws.IfDone.{if_refused}
-use Rattle.tile.proofs.Laws.FirstNo.{each_number, first_no_among}
 use Rattle.sheet.specs.declared.SheetTile.{SheetTile}
-use Rattle.sheet.specs.SheetQuestions.{sheet_sides, tile_sides, question14, question15, sheet_questions}
-use Rattle.sheet.specs.SheetOutcomes.{tile_entries, sheet_refusal, sheet_result, sheet_table}
+use Rattle.sheet.specs.SheetQuestions.{question14, question15, sheet_questions}
+use Rattle.sheet.specs.SheetOutcomes.{sheet_refusal}
 
 abbrev q14 : SheetTile → Question
 q14 place = question14 place.sheet place.side

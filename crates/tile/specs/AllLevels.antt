@@ -4,13 +4,9 @@
 --   pyramid_drawn                            the whole buffer that the call leaves
 --   LevelByLevel, level_by_level             each level's part of it
 --   pyramid_not_refused                      a table whose deepest level can be drawn is not refused: so no accepted outline's is
-use Rattle.std.specs.Prelude.{◌≡◌, List, ℕ, suc, ◌^◌, ◌≤◌, length, ℤ}
-use Rattle.std.proofs.Common.{sym, ◌∙◌, ap, arith}
-use Rattle.haar.specs.Greys.{grey_of}
-use Rattle.haar.specs.Pyramid.{places, pyramid_in}
-use Rattle.haar.proofs.Laws.Pyramid.{pyramid_level}
+use Rattle.std.specs.Prelude.{◌≡◌, List, ℕ, ◌^◌, ◌≤◌, length, ℤ}
 use Rattle.tile.specs.Questions.{depth_of}
-use Rattle.tile.specs.Outcomes.{draw_refusal, greys_picture, pyramid_refusal, pyramid_pictures, level_part}
+use Rattle.tile.specs.Outcomes.{draw_refusal, greys_picture, pyramid_refusal, level_part}
 
 -- This is said of a buffer before and after the call, where it is not refused. The level's picture may hold anything before.
 pub record LevelByLevel (side : ℕ) (table : List ℤ) (before after : List ℕ) : Type 0 where

@@ -6,16 +6,7 @@
 --   figure_alone, alone_as_in_picture      one cell's figure, the same
 --   cell_details                            h, v and d of a cell, as the table has them
 --   figure_of_root, figure_of_quarter      and how a figure is worked from the table: 01's own formula
-use Rattle.std.specs.Prelude.{◌≡◌, List, ℕ, suc, ◌+◌, ◌*◌, ◌-◌, ◌/◌, ◌%◌, ◌^◌, ◌<◌, length, get_or, ℤ, pos, ◌+ℤ◌, ◌*ℤ◌}
-use Rattle.std.proofs.Common.{sym, ◌∙◌, ap}
-use Rattle.std.proofs.Math.Path.{fun_ext}
-use Rattle.haar.specs.Table.{stored}
-use Rattle.haar.specs.Greys.{grey_of}
-use Rattle.haar.specs.Plane.{dimensions, quarter_details, figure_in, picture_in}
-use Rattle.haar.proofs.Laws.Layout.{index_plane}
-use Rattle.haar.proofs.Laws.Quarters.{figure-top, quarter_figure, figure-quarter}
-use Rattle.haar.proofs.Laws.Pictures.{picture_at}
-use Rattle.tile.specs.Outcomes.{draw_refusal, figures_picture, greys_picture, picture_index, cell_refusal, cell_result}
+use Rattle.std.specs.Prelude.{List, ℕ, ◌+◌, ◌*◌, ◌-◌, ◌^◌, get_or, ℤ, pos}
 
 -- h, v and d of cell (cx, cy) of level j, by their numbers 1, 2 and 3: they stand "from 4^j + 3 × (cy × 2^j + cx) on"
 abbrev pub cell_details : List ℤ → ℕ → ℕ → ℕ → ℕ → ℤ

@@ -29,35 +29,8 @@
 --   either_way_placed_greys      the same with placements; to be accepted, the other must pass question 12 too
 -- Instance
 --   letter_a-back                 01's letter A walked back from its first point
-use Rattle.std.specs.Prelude.{◌≡◌, refl, Bool, ℕ, zero, suc, ◌*◌, ◌^◌, eqb, leb, length, ℤ, pos, neg_ℤ, ◌*ℤ◌}
-use Rattle.std.proofs.Common.{sym, ◌∙◌, ap, ap₂, arith}
-use Rattle.std.proofs.Math.Path.{fun_ext}
-use mathlib.Core.List.{List, [], ◌∷◌, map, reverse_perm}
-use Rattle.std.proofs.lemmas.List.{length-map}
-use Rattle.integers.specs.Units.{steps_per_pixel, most_edges, entry_limit}
-use Rattle.integers.proofs.Theorems.Ring.{read, ring}
-use Rattle.integers.specs.Tests.{every, between}
-use Rattle.integers.proofs.Theorems.Tests.{within_neg_same}
-use Rattle.integers.proofs.Theorems.Every.{every_map}
-use Rattle.edge.specs.declared.Edge.{Edge}
-use Rattle.haar.specs.Entries.{entries}
-use Rattle.haar.specs.Greys.{grey}
-use Rattle.haar.specs.Plane.{dimensions, at, figure_in}
-use Rattle.haar.proofs.Laws.Greys.{grey-neg}
-use Rattle.haar.proofs.Laws.Opposite.{figure-opposite, figures_opposite, greys_opposite, entries-opposite}
-use Rattle.placement.specs.declared.Placement.{Placement}
-use Rattle.placement.specs.Placed.{placed}
-use Rattle.placement.proofs.Laws.PlacedPoints.{placed-length}
-use Rattle.accuracy.specs.Outline.{contours_of, points_of, through, contour_edges, outline_edges, edge_count}
-use Rattle.accuracy.specs.ExactArea.{denominator, exact_area_num}
-use Rattle.accuracy.specs.OutlineTable.{outline_table}
-use Rattle.accuracy.proofs.Laws.Coordinates.{contours_of-count}
-use Rattle.accuracy.proofs.Laws.Reversal.{EdgesReversed, outline_table-reversed, length-reversed, denominator-reversed, exact_area_reversed}
-use Rattle.tile.specs.Questions.{Question, Yes, depth_of, first_no, question1, question2, question4, question7, question8, question9, question10, question12}
-use Rattle.tile.specs.Outcomes.{if_done, edges_of, edges_table, build_refusal, build_table, placed_refusal, placed_table}
-use Rattle.tile.specs.Outcomes.{table_of, draw_refusal, figures_picture, greys_picture, cell_refusal, cell_result}
-use Rattle.tile.specs.Faithful.{figure_num}
-use Rattle.tile.specs.Letters.{letter_a, counts as one_count}
+use Rattle.std.specs.Prelude.{ℤ, neg_ℤ}
+use mathlib.Core.List.{List, map}
 
 abbrev pub opposite : List ℤ → List ℤ
 opposite = map neg_ℤ

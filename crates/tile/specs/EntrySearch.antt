@@ -16,14 +16,11 @@
 --   looked_all                             it is answered yes, and all were looked at: exactly where none is out of range
 --   rest_immaterial                        where it is answered no, the entries after those that were looked at make no difference to either answer
 --   empty, front, middle, whole, last      single tables; `whole` and `last` have the same count and opposite answers
-use Rattle.std.specs.Prelude.{◌≡◌, refl, ◌↔◌, ◌⊎◌, Bool, List, [], ◌∷◌, ◌++◌, ℕ, suc, length, take, ℤ, pos, neg_ℤ}
+use Rattle.std.specs.Prelude.{Bool, List, ℕ, ℤ, pos, neg_ℤ}
 use Rattle.integers.specs.Units.{entry_limit}
-use Rattle.integers.specs.ListSum.{All}
 use Rattle.integers.specs.Tests.{between}
-use Rattle.integers.proofs.Theorems.Tests.{within_means}
 use Rattle.integers.specs.Within.{Within}
 use Rattle.integers.specs.Search as general
-use Rattle.tile.specs.Questions.{Yes, No, question9}
 
 abbrev pub in_range : ℤ → Bool
 in_range = between (neg_ℤ (pos entry_limit)) (pos entry_limit)

@@ -12,19 +12,15 @@
 --
 -- Main results (the laws among them are in proofs/Theorems/Letters.antt)
 --   letters_hold                 for each of the eight
-use Rattle.std.specs.Prelude.{◌≡◌, refl, List, [], ◌∷◌, ℕ, suc, ◌*◌, ◌/◌, ◌^◌, length, drop, ℤ, pos, neg_ℤ}
-use Rattle.std.proofs.Common.{◌∙◌, ap}
-use Rattle.integers.specs.ListSum.{All, tally}
+use Rattle.std.specs.Prelude.{◌≡◌, List, [], ◌∷◌, ℕ, suc, ◌*◌, ◌/◌, ◌^◌, length, drop, ℤ, pos, neg_ℤ}
+use Rattle.integers.specs.ListSum.{All}
 use Rattle.edge.specs.declared.Edge.{Edge}
 use Rattle.edge.specs.Walk.{steps}
 use Rattle.edge.specs.Integrals.{h_num}
 use Rattle.edge.specs.Rounded.{details}
-use Rattle.edge.proofs.Laws.Letters.{f, f-steps, f_h, f-details, g, g-steps, g_h, g-details}
-use Rattle.haar.specs.Greys.{grey_of}
-use Rattle.haar.specs.Plane.{picture_in}
 use Rattle.accuracy.specs.Tile.{tile}
 use Rattle.tile.specs.Questions.{depth_of}
-use Rattle.tile.specs.Outcomes.{if_done, edges_of, table_of, build_refusal, build_table, draw_refusal, figures_picture, greys_picture}
+use Rattle.tile.specs.Outcomes.{edges_of, build_refusal, build_table, draw_refusal, figures_picture, greys_picture}
 
 pub record View (A : Type 0) : Type 0 where
   pub level : ℕ

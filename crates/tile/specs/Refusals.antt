@@ -15,25 +15,13 @@
 --   question1_means .. question10_means,
 --   question8_all_means, question12_means    what "yes" says; `no_means` of `integers`' Tests makes of each what "no" says
 --   side_of_depth, depth_of_side            a side is 2 to the power of its depth, and each depth has its side
-use Rattle.std.specs.Prelude.{◌≡◌, refl, List, [], ◌∷◌, ◌↔◌, ◌&&◌, ℕ, zero, suc, ◌*◌, ◌^◌, ◌<◌, ◌≤◌, leb, ltb, length, ℤ, pos, neg_ℤ, ◌≤ℤ◌}
-use Rattle.std.proofs.Common.{arith}
-use Rattle.std.specs.Int.Count.{count_trailing_zeros}
-use Rattle.std.specs.Int.Signed.{le_z}
-use Rattle.integers.specs.Units.{steps_per_pixel, greatest_depth, fewest_points, most_points, most_edges, entry_limit}
-use Rattle.integers.specs.Within.{Within}
+use Rattle.std.specs.Prelude.{◌≡◌, List, [], ◌∷◌, ◌↔◌, ℕ, ℤ}
 use Rattle.integers.specs.ListSum.{All}
-use Rattle.haar.specs.Greys.{grey_of}
-use Rattle.haar.specs.Plane.{figure_in, picture_in}
-use Rattle.haar.specs.Pyramid.{places, pyramid_in}
 use Rattle.placement.specs.declared.Placement.{Placement}
 use Rattle.placement.specs.Placed.{placed}
-use Rattle.placement.specs.Placeable.{Placeable}
-use Rattle.placement.proofs.Theorems.Placeable.{placeable_means}
-use Rattle.accuracy.specs.Outline.{edge_count}
-use Rattle.tile.specs.Questions.{Yes, No, DecidedBy, depth_of, question1, question2, question3, question4, question5, question6, question7, question8, question9, question10, question12}
+use Rattle.tile.specs.Questions.{Yes, No, DecidedBy, question1, question2, question3, question4, question5, question6, question7, question8, question9, question10, question12}
 use Rattle.tile.specs.Questions.{question8_all, building_questions, placed_questions, drawing_questions, cell_questions, pyramid_questions}
-use Rattle.tile.specs.Outcomes.{table_of, build_refusal, build_result, build_table, placed_refusal, placed_result, placed_table, draw_refusal, figures_picture, greys_picture, cell_refusal, cell_result, pyramid_refusal, pyramid_pictures}
-use Rattle.integers.proofs.Theorems.Tests.{eqb_means, leb_means, ltb_means, and_means, every_means, between_means, within_means, one_of_means}
+use Rattle.tile.specs.Outcomes.{build_refusal, placed_refusal, draw_refusal, cell_refusal, pyramid_refusal}
 use Rattle.integers.specs.Tests.{OneOf}
 
 -- ---- "Building: 1, 2, 4, 5, 3, 6."

@@ -17,21 +17,9 @@
 -- Instances
 --   letter_a-reversed,
 --   letter_g-reversed             "B. A reversed", "H. G reversed"
-use Rattle.std.specs.Prelude.{◌≡◌, refl, Bool, not, ◌&&◌, ◌||◌, List, [], ◌∷◌, map, reverse, ℕ, ◌*◌, eqb, length, ℤ, pos}
-use Rattle.std.proofs.Common.{sym, ◌∙◌, ap, ap₂}
-use Rattle.integers.specs.Units.{steps_per_pixel}
-use Rattle.integers.specs.Tests.{every, between}
-use Rattle.placement.specs.declared.Placement.{Placement}
-use Rattle.placement.specs.declared.Placement.TheVariants.{None}
-use Rattle.placement.specs.Placed.{placed, is_moving, floats_usable, is_movable}
-use Rattle.placement.proofs.Laws.PlacedPoints.{placed-length}
-use Rattle.accuracy.specs.Outline.{contours_of, points_of, edge_count}
-use Rattle.accuracy.proofs.Laws.Reversal.{EdgesReversed, outline_edges-reverse}
-use Rattle.tile.specs.Questions.{first_no, question1, question4, question5}
-use Rattle.tile.specs.Outcomes.{if_done, edges_of, build_refusal, build_result, build_table, placed_refusal, placed_result, placed_table, greys_picture}
-use Rattle.tile.specs.Written.{Contour, coordinates_of, coordinates, counts_of}
-use Rattle.tile.specs.Letters.{letter_a, letter_b, letter_g, letter_h, counts as one_count}
-use Rattle.tile.specs.EitherWay.{opposite}
+use Rattle.std.specs.Prelude.{List, map, reverse, ℕ, ℤ}
+use Rattle.accuracy.specs.Outline.{contours_of}
+use Rattle.tile.specs.Written.{coordinates}
 
 abbrev pub reversed : List ℤ → List ℕ → List ℤ
 reversed points counts = coordinates (map reverse (contours_of counts points))

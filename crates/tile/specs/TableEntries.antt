@@ -11,25 +11,7 @@
 --   DetailEntry, detail_entry    every entry but the root is a detail of a cell
 --   edges_counted                the edges are as many as the counts' sum, which building reports
 --   no_contour                   "No contour at all is an accepted outline: every entry of its table is 0."
-use Rattle.std.specs.Prelude.{◌≡◌, refl, List, [], ℕ, suc, ◌+◌, ◌*◌, ◌-◌, ◌/◌, ◌%◌, ◌^◌, ◌<◌, ◌≤◌, length, get_or, replicate, ℤ, pos, ◌+ℤ◌, ◌*ℤ◌}
-use Rattle.std.proofs.Common.{sym, ◌∙◌, ap, subst, lit≤}
-use Rattle.std.proofs.Math.Path.{subst⁻¹}
-use Rattle.std.proofs.Math.Nat.{one-le-pow}
-use Rattle.std.proofs.lemmas.List.{length-replicate, get_or-replicate}
-use Rattle.integers.specs.ListSum.{total, tally}
-use Rattle.edge.specs.Rounded.{details}
-use Rattle.haar.specs.Cells.{children}
-use Rattle.haar.specs.Table.{index}
-use Rattle.haar.specs.Plane.{dimensions, quarter_details, at}
-use Rattle.haar.proofs.Laws.Layout.{index-onto, index_plane, index_within}
-use Rattle.haar.proofs.Laws.Entries.{entries-root, entries_detail, entries_unique}
-use Rattle.accuracy.specs.Outline.{contours_of, edge_count, outline_edges, signed_area}
-use Rattle.accuracy.specs.Tile.{square}
-use Rattle.accuracy.specs.ExactArea.{denominator, exact_area_num}
-use Rattle.accuracy.specs.ExactDetails.{numbered, exact_detail_num, QuarterDifferences}
-use Rattle.accuracy.specs.OutlineTable.{outline_table}
-use Rattle.tile.specs.Questions.{depth_of, Yes, question1}
-use Rattle.tile.specs.Outcomes.{edges_of, table_of, build_refusal, build_table}
+use Rattle.std.specs.Prelude.{◌≡◌, ℕ, ◌+◌, ◌*◌, ◌-◌, ◌^◌, ◌<◌, ◌≤◌}
 
 -- detail `number` of cell (x, y) of a level stands at i
 pub record DetailEntry (depth i : ℕ) : Type 0 where

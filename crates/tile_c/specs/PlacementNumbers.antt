@@ -7,13 +7,10 @@
 -- Main results (the laws among them are in proofs/Theorems/PlacementNumbers.antt)
 --   of_none, of_scale, of_shift, of_turn      the placement of as many numbers
 --   other_length                              a list of another length is refused by question 12, whatever the points
-use Rattle.std.specs.Prelude.{◌≡◌, refl, false, cond, List, [], ◌∷◌, ◌≢◌, eqb, length, get_or, ℤ, pos, Float}
-use Rattle.std.proofs.Common.{◌∙◌, ap, ne_eqb}
+use Rattle.std.specs.Prelude.{false, cond, List, eqb, length, get_or, pos, Float}
 use Rattle.std.specs.Float.{nan, fin}
 use Rattle.placement.specs.declared.Placement.{Placement}
 use Rattle.placement.specs.declared.Placement.TheVariants.{None, Shift, Scale, Turn}
-use Rattle.placement.specs.Parts.{is_multiple}
-use Rattle.tile.specs.Questions.{No, question12}
 
 -- a scale by 4, which is past every factor's limit
 abbrev pub refused_placement : Placement

@@ -8,7 +8,7 @@
 --   sheet_times_tile             a sheet's width times its tile's is within the limit
 --   edge_on_sheet_small          and on a sheet around the tile, the root's part being the edge's rounded area in the tile
 --   built_entries                a table's entries are at most `built_entry_limit`, for a number of edges that is accepted
-use Rattle.std.specs.Prelude.{◌≡◌, refl, List, [], ◌∷◌, ℕ, ◌*◌, ◌-◌, ◌^◌, ◌≤◌, length, ℤ, pos, ◌*ℤ◌, ◌≤ℤ◌}
+use Rattle.std.specs.Prelude.{refl, List, [], ◌∷◌, ℕ, ◌*◌, ◌^◌, ◌≤◌, length, ℤ, pos, ◌*ℤ◌, ◌≤ℤ◌}
 use Rattle.std.proofs.Common.{arith, le_refl, le_trans, sub-le, mul-le-mul, mul-le-mul_left}
 use Rattle.std.proofs.Math.Nat.{sub-le-sub_left, pow-le-pow_right}
 use Rattle.integers.specs.Units.{steps_per_pixel, greatest_depth, greatest_coordinate, greatest_sheet_coordinate, greatest_tile_depth, greatest_tile_side, most_edges, width_times_extent_limit, detail_limit, built_entry_limit}

@@ -22,7 +22,6 @@ use Rattle.edge.specs.Walk.{steps}
 use Rattle.edge.specs.Integrals.{area_num}
 use Rattle.edge.specs.Rounded.{root_term, rounded_area}
 use Rattle.edge.specs.Octilinear.{Octilinear}
-use Rattle.edge.specs.Nested.{OnCell}
 use Rattle.edge.proofs.Laws.StepCount.{steps_pos, rounded_whole}
 use Rattle.edge.proofs.Laws.WholeTile.{root_boundary, whole_tile}
 use Rattle.edge.proofs.Laws.OctilinearEdges.{unit_area, area_octilinear}

@@ -8,12 +8,12 @@
 --   from-tile-signed             and enclose the same signed area
 --   from-tile_area               the exact area of a tile's cell is 01's, of the edges as they are and of the cell at its place on the sheet
 --   tiles_add_up                 "For outlines of level, upright and 45 degree edges the tiles' roots add up to the outline's area."
-use Rattle.std.specs.Prelude.{◌≡◌, refl, List, [], ◌∷◌, map, ℕ, zero, suc, ◌+◌, ◌*◌, ◌-◌, ◌^◌, ◌≤◌, length, ℤ, ◌+ℤ◌, ◌-ℤ◌, ◌*ℤ◌, ◌≤ℤ◌}
+use Rattle.std.specs.Prelude.{◌≡◌, refl, List, [], ◌∷◌, map, ℕ, ◌*◌, length, ℤ, ◌+ℤ◌, ◌-ℤ◌, ◌*ℤ◌, ◌≤ℤ◌}
 use Rattle.std.proofs.Math.Path.{sym, subst⁻¹}
-use Rattle.std.proofs.Common.{◌∙◌, ap, ap₂, subst, arith}
+use Rattle.std.proofs.Common.{◌∙◌, ap, ap₂, subst}
 use Rattle.std.proofs.lemmas.List.{length-map}
 use Rattle.std.proofs.Math.IntN.{pos}
-use Rattle.integers.proofs.Theorems.Ring.{read, ring, comb, ◌⊗◌, ◌⊕◌}
+use Rattle.integers.proofs.Theorems.Ring.{read, ring, comb}
 use Rattle.integers.proofs.Theorems.Order.{nonneg}
 use Rattle.integers.proofs.Theorems.Linear.{le, linear, lin≤}
 use Rattle.integers.specs.RangeSum.{Σ<}
@@ -22,7 +22,6 @@ use Rattle.integers.specs.ListSum.{All, total}
 use Rattle.integers.proofs.Theorems.ListSum.{all_of, all_map, all_image, total_cong, total-add, total-map, total-range}
 use Rattle.integers.specs.Fraction.{common, numer}
 use Rattle.integers.specs.Rounding.{round_half_away}
-use Rattle.integers.proofs.Theorems.RoundHalfAway.{round_half_away-mul}
 use Rattle.edge.specs.declared.Edge.{Edge}
 use Rattle.edge.specs.declared.Cell.{Cell as Square}
 use Rattle.edge.specs.Walk.{steps}
@@ -30,7 +29,7 @@ use Rattle.edge.specs.Integrals.{area_num}
 use Rattle.edge.specs.Rounded.{root_term, rounded_area}
 use Rattle.edge.specs.Octilinear.{Octilinear}
 use Rattle.edge.specs.Nested.{OnRange, OnCell, seen_from, moved}
-use Rattle.edge.proofs.Laws.StepCount.{steps_pos, rounded_whole, whole_kept}
+use Rattle.edge.proofs.Laws.StepCount.{rounded_whole, whole_kept}
 use Rattle.edge.proofs.Laws.WholeTile.{root_boundary, whole_tile}
 use Rattle.edge.proofs.Laws.OctilinearEdges.{unit_area, area_octilinear}
 use Rattle.edge.proofs.Laws.Translation.{steps_seen, octilinear_seen, area_seen, rounded_area_seen}

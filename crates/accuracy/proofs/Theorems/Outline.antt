@@ -1,8 +1,7 @@
 -- Laws of what specs/Outline.antt defines. The head of that file lists the main results.
-use Rattle.std.specs.Prelude.{◌≡◌, List, [], ◌∷◌, ◌++◌, ℕ, ◌+◌, ◌*◌, get_or, take, drop, ℤ, pos, ◌-ℤ◌, ◌*ℤ◌}
+use Rattle.std.specs.Prelude.{◌≡◌, [], ◌∷◌, ℤ, pos, ◌*ℤ◌}
 use Rattle.integers.proofs.Theorems.Ring.{read, ring}
-use Rattle.integers.specs.ListSum.{total, tally}
-use Rattle.edge.specs.declared.Edge.{Edge}
+use Rattle.integers.specs.ListSum.{total}
 use Rattle.edge.specs.Rounded.{root_term}
 use Rattle.accuracy.specs.Outline.{Point, contour_edges, signed_area, through}
 

@@ -1,5 +1,5 @@
 -- Laws of what specs/OutlineTable.antt defines. The head of that file lists the main results.
-use Rattle.std.specs.Prelude.{◌≡◌, refl, List, [], ◌∷◌, ℕ, ℤ, pos}
+use Rattle.std.specs.Prelude.{◌≡◌, refl, [], ◌∷◌, pos}
 use Rattle.integers.specs.MinMax.{min, max}
 use Rattle.integers.specs.Clamp.{clamp}
 use Rattle.integers.specs.RangeSum.{Σ<}
@@ -10,12 +10,7 @@ use Rattle.integers.specs.ListSum.{total}
 use Rattle.edge.specs.declared.Edge.{Edge}
 use Rattle.edge.specs.Walk.{extent, sign}
 use Rattle.edge.specs.Integrals.{area_num}
-use Rattle.edge.specs.Rounded.{details, root_term, rounded_area}
-use Rattle.haar.specs.Table.{Coefficients}
-use Rattle.haar.specs.Plane.{dimensions}
-use Rattle.accuracy.specs.Outline.{signed_area}
-use Rattle.accuracy.specs.Tile.{square, tile}
-use Rattle.accuracy.specs.ExactDetails.{numbered}
+use Rattle.edge.specs.Rounded.{root_term, rounded_area}
 use Rattle.accuracy.specs.OutlineTable.{tile_root}
 
 -- Two checks, on a tile of one pixel. An edge to the right of it counts, with the pixel's whole width: one that runs a step down there has 256 square steps, 512

@@ -1,14 +1,7 @@
 -- Laws of what specs/Tile.antt defines. The head of that file lists the main results.
-use Rattle.std.specs.Prelude.{◌≡◌, List, ℕ, ◌*◌, ◌-◌, ◌^◌, ◌<◌, ◌≤◌, pos, ◌≤ℤ◌}
+use Rattle.std.specs.Prelude.{◌≡◌, ℕ, ◌*◌, ◌-◌, ◌^◌}
 use Rattle.std.proofs.Common.{◌∙◌, ap, arith}
-use Rattle.integers.specs.Units.{steps_per_pixel}
-use Rattle.integers.specs.ListSum.{All}
-use Rattle.edge.specs.declared.Edge.{Edge}
-use Rattle.edge.specs.declared.Cell.{Cell as Square}
-use Rattle.haar.specs.Cells.{Cell}
 use Rattle.haar.specs.Greys.{full}
-use Rattle.haar.specs.Plane.{dimensions}
-use Rattle.accuracy.specs.Outline.{Point, ClosedEdges}
 use Rattle.accuracy.specs.Tile.{cell_width}
 
 -- A check: the tile's area in units, two to a square step, is the figure of a tile that is all ink, by which greys are measured.

@@ -1,15 +1,11 @@
 -- Laws of what specs/Chords.antt defines. The head of that file lists the main results.
-use Rattle.std.specs.Prelude.{◌≡◌, refl, List, [], ◌∷◌, ℕ, suc, ◌+◌, ◌^◌, length, ℤ, pos}
+use Rattle.std.specs.Prelude.{◌≡◌, refl, [], ◌∷◌, ◌+◌, length, ℤ, pos}
 use Rattle.integers.specs.ListSum.{tally, joined}
 use Rattle.integers.specs.Rounding.{floor, round_half_up}
-use Rattle.edge.specs.declared.Edge.{Edge}
-use Rattle.curve.specs.Curve.{bend, splits_from, splits, chord_end}
+use Rattle.curve.specs.Curve.{splits_from}
 use Rattle.haar.specs.Pictures.{tabulate}
 use Rattle.accuracy.specs.Outline.{Point, edge_between}
-use Rattle.chords.specs.declared.Curve.{Curve}
-use Rattle.chords.specs.declared.Side.{Side}
-use Rattle.chords.specs.declared.Side.TheVariants.{Straight, Curved}
-use Rattle.chords.specs.Sides.{sides_from, MarkedContour, marked_contour, sides_of}
+use Rattle.chords.specs.Sides.{sides_from, marked_contour}
 use Rattle.chords.specs.Chords.{chords_of, contour_chords}
 
 -- A check, by computing: two straight edges, and the curve that closes the contour, with its control point at the end of the coordinates. Its bend is −512

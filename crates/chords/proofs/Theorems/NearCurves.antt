@@ -1,14 +1,12 @@
 -- Laws of what specs/NearCurves.antt defines. The head of that file lists the main results.
 use Rattle.std.specs.Prelude.{List}
-use Rattle.integers.specs.ListSum.{All, joined}
+use Rattle.integers.specs.ListSum.{All}
 use Rattle.integers.proofs.Theorems.ListSum.{all_map}
-use Rattle.curve.specs.ChordsNear.{ChordsNear}
 use Rattle.curve.proofs.Theorems.ChordsNear.{curve_near}
 use Rattle.curve.specs.Curve.{OnSheet}
 use Rattle.chords.specs.declared.Side.{Side}
 use Rattle.chords.specs.declared.Side.TheVariants.{Straight, Curved}
-use Rattle.chords.specs.Sides.{MarkedContour, sides_of}
-use Rattle.chords.specs.Chords.{splits_of}
+use Rattle.chords.specs.Sides.{MarkedContour}
 use Rattle.chords.specs.Laws.SidesWithin.{Right, SideWithin, sides_within}
 use Rattle.chords.specs.NearCurves.{NearChords, outline_sides}
 

@@ -8,7 +8,7 @@
 --   from_within                  the sides from some on
 --   contour_within, sides_within the sides of such a contour, and of an outline
 --   contours_right               the contours of an outline with as many marks and coordinates as it should have are such
-use Rattle.std.specs.Prelude.{◌≡◌, refl, Bool, true, false, cond, ℕ, zero, suc, ◌+◌, ◌*◌, ◌%◌, ◌<◌, ◌≤◌, eqb, take, ℤ, pos}
+use Rattle.std.specs.Prelude.{◌≡◌, refl, Bool, true, false, cond, ℕ, zero, suc, ◌+◌, ◌*◌, ◌<◌, ◌≤◌, eqb, take, ℤ, pos}
 use mathlib.Core.List.{List, [], ◌∷◌}
 use Rattle.std.proofs.Common.{arith, length-take-le}
 use Rattle.std.proofs.Math.ListN.{length, drop, length-drop}

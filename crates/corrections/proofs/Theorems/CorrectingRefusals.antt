@@ -4,23 +4,19 @@ use Rattle.std.proofs.Common.{sym, ◌∙◌, ap, true≢false, arith, le-leb}
 use Rattle.integers.specs.Units.{most_points, most_edges, entry_limit}
 use Rattle.integers.specs.Within.{Within}
 use Rattle.integers.specs.ListSum.{All, tally}
-use Rattle.integers.specs.Tests.{OneOf}
 use Rattle.integers.proofs.Theorems.Tests.{leb_means, and_means}
 use Rattle.placement.specs.declared.Placement.{Placement}
-use Rattle.placement.specs.Placed.{placed}
 use Rattle.accuracy.specs.Outline.{edge_count}
-use Rattle.tile.specs.Questions.{Question, Yes, No, DecidedBy, question1, question2, question3, question4, question5_beside, question6, question9, question12}
+use Rattle.tile.specs.Questions.{Yes, No, DecidedBy, question5_beside, question9}
 use Rattle.tile.proofs.Theorems.Refusals.{question4_means, question9_means}
 use Rattle.tile.proofs.Laws.IfDone.{if_refused}
 use Rattle.tile.proofs.Laws.FirstNo.{decided_no, each_number, first_no_among}
 use Rattle.sheet.specs.declared.SheetTile.{SheetTile}
 use Rattle.sheet.specs.declared.Site.{Site}
 use Rattle.sheet.specs.declared.Site.TheVariants.{Alone, OnSheet}
-use Rattle.sheet.specs.SheetQuestions.{question14, question15}
-use Rattle.sheet.specs.Sites.{tile_side, reach}
 use Rattle.corrections.specs.declared.Change.{Change}
 use Rattle.corrections.specs.declared.Change.TheVariants.{Put, Take}
-use Rattle.corrections.specs.Corrections.{Tile, Call, call_of, question13, question9_twice, already_in, taken_out, would_leave, contour_questions, correcting_questions, correct_refusal, corrected}
+use Rattle.corrections.specs.Corrections.{Tile, Call, call_of, question13, question9_twice, already_in, taken_out, contour_questions, correcting_questions, correct_refusal, corrected}
 use Rattle.corrections.specs.CorrectingRefusals.{CorrectingRefusals, OnSheetRefusals, q13, q4, q5, q9}
 
 pub correcting_refusals : (change : Change) (side : ℕ) (points : List ℤ) (count : ℕ) (placement : Placement) (t : Tile)

@@ -1,11 +1,10 @@
 -- Laws of what specs/ChordsNear.antt defines. The head of that file lists the main results.
-use Rattle.std.specs.Prelude.{◌≡◌, refl, [], ◌∷◌, ℕ, ◌*◌, ◌^◌, ◌<◌, ◌≤◌, ℤ, pos, ◌+ℤ◌, ◌-ℤ◌, ◌*ℤ◌, ◌≤ℤ◌}
+use Rattle.std.specs.Prelude.{◌≡◌, refl, [], ◌∷◌, ℕ, ◌^◌, ℤ, pos, ◌*ℤ◌}
 use Rattle.std.proofs.Common.{sym, ap}
 use Rattle.integers.proofs.Theorems.Ring.{read, comb, ◌⊗◌}
 use Rattle.integers.proofs.Theorems.Order.{nonneg, pos-≤ℤ}
-use Rattle.integers.specs.Magnitude.{abs}
 use Rattle.integers.proofs.Theorems.Within.{within_is, abs_of_within}
-use Rattle.curve.specs.Curve.{OnSheet, bend, curve_num, chord_num, IsFlat, splits}
+use Rattle.curve.specs.Curve.{OnSheet, bend, IsFlat, splits}
 use Rattle.curve.proofs.Laws.ChordDistance.{chord_close}
 use Rattle.curve.proofs.Laws.ChordEnds.{power_square}
 use Rattle.curve.proofs.Laws.Splits.{flat_on, splits-flat}

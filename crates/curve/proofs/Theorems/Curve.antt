@@ -1,8 +1,6 @@
 -- Laws of what specs/Curve.antt defines. The head of that file lists the main results.
-use Rattle.std.specs.Prelude.{◌≡◌, refl, Bool, ◌&&◌, cond, ℕ, zero, suc, ◌*◌, ◌^◌, ℤ, pos, neg_ℤ, ◌+ℤ◌, ◌-ℤ◌, ◌*ℤ◌, ◌≤ℤ◌}
+use Rattle.std.specs.Prelude.{◌≡◌, refl, pos, neg_ℤ}
 use Rattle.integers.specs.Units.{greatest_sheet_coordinate, most_splits}
-use Rattle.integers.specs.Within.{Within}
-use Rattle.integers.specs.Tests.{between}
 use Rattle.integers.specs.Rounding.{floor, round_half_up}
 use Rattle.curve.specs.Curve.{bend, chord_end, splits, splits_from}
 

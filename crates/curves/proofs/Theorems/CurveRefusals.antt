@@ -1,9 +1,9 @@
 -- Laws of what specs/CurveRefusals.antt defines. The head of that file lists the main results.
-use Rattle.std.specs.Prelude.{◌≡◌, List, [], ◌∷◌, map, ◌↔◌, ℕ, ◌+◌, ◌<◌, ◌≤◌, eqb, length, ℤ}
+use Rattle.std.specs.Prelude.{◌≡◌, List, ◌↔◌, ℕ, ◌+◌, ◌<◌, ◌≤◌, eqb, length, ℤ}
 use Rattle.std.proofs.Common.{arith}
 use Rattle.integers.specs.Units.{most_edges}
 use Rattle.integers.specs.ListSum.{All}
-use Rattle.integers.specs.Tests.{every, OneOf}
+use Rattle.integers.specs.Tests.{every}
 use Rattle.integers.proofs.Theorems.Tests.{eqb_means, leb_means, and_means, every_means}
 use Rattle.edge.specs.declared.Edge.{Edge}
 use Rattle.placement.specs.declared.Placement.{Placement}
@@ -11,7 +11,7 @@ use Rattle.accuracy.specs.Outline.{edge_count}
 use Rattle.chords.specs.Sides.{numbers}
 use Rattle.tile.specs.Questions.{Yes}
 use Rattle.tile.proofs.Laws.IfDone.{if_refused}
-use Rattle.tile.proofs.Laws.FirstNo.{EachNumber, each_number, first_no_among}
+use Rattle.tile.proofs.Laws.FirstNo.{each_number, first_no_among}
 use Rattle.sheet.specs.declared.Site.{Site}
 use Rattle.sheet.specs.declared.Site.TheVariants.{Alone, OnSheet}
 use Rattle.sheet.specs.Sites.{entries_at}

@@ -1,7 +1,7 @@
 -- Laws of what specs/CurveTheorem.antt defines. The head of that file lists the main results.
-use Rattle.std.specs.Prelude.{◌≡◌, refl, List, [], ◌∷◌, ◌↔◌, ℕ, ◌+◌, ◌*◌, ◌≤◌, length, ℤ, pos}
+use Rattle.std.specs.Prelude.{◌≡◌, refl, List, [], ◌∷◌, ◌↔◌, ℕ, ◌*◌, ◌≤◌, length, ℤ, pos}
 use Rattle.std.proofs.Common.{sym, ◌∙◌, subst, arith}
-use Rattle.integers.specs.Units.{steps_per_pixel, most_edges, most_points, greatest_sheet_coordinate}
+use Rattle.integers.specs.Units.{steps_per_pixel, most_edges, greatest_sheet_coordinate}
 use Rattle.integers.proofs.Theorems.Order.{≤ℤ_trans, pos-≤ℤ}
 use Rattle.integers.specs.ListSum.{All, tally, joined}
 use Rattle.integers.proofs.Theorems.ListSum.{all_map, all_front, all_back}
@@ -13,19 +13,19 @@ use Rattle.placement.specs.declared.Placement.{Placement}
 use Rattle.placement.specs.declared.Placement.TheVariants.{None}
 use Rattle.placement.specs.Placed.{placed}
 use Rattle.placement.proofs.Laws.PlacedPoints.{placed-length}
-use Rattle.accuracy.specs.Outline.{edge_count, signed_area, ClosedEdges}
+use Rattle.accuracy.specs.Outline.{signed_area, ClosedEdges}
 use Rattle.accuracy.specs.ExactArea.{denominator, exact_area_num}
 use Rattle.accuracy.specs.Tile.{EdgeOnTile, ClosedOnTile}
 use Rattle.accuracy.proofs.Laws.Denominator.{denominator-pos}
 use Rattle.accuracy.proofs.Laws.Roots.{root_wholly_on}
 use Rattle.accuracy.proofs.Laws.SheetTiles.{from-tile_area, from-tile-closed, from-tile_octilinear, from-tile-signed}
 use Rattle.curve.specs.Curve.{OnSheet as CoordinateOnSheet, splits_from}
-use Rattle.chords.specs.Sides.{numbers, sides_from, marked_contours}
+use Rattle.chords.specs.Sides.{sides_from, marked_contours}
 use Rattle.chords.specs.Chords.{chords_of}
 use Rattle.chords.proofs.Theorems.NearCurves.{sides_near}
 use Rattle.chords.specs.Laws.SidesWithin.{contours_right}
 use Rattle.chords.proofs.Laws.ClosedChords.{chords_closed, chords_closed_on}
-use Rattle.tile.specs.Questions.{Question, Yes, depth_of, first_no, question2, question12}
+use Rattle.tile.specs.Questions.{Question, Yes, depth_of, first_no}
 use Rattle.tile.specs.Outcomes.{if_done}
 use Rattle.tile.proofs.Theorems.Refusals.{question4_means, question6_means}
 use Rattle.tile.specs.Faithful.{Drawn}

@@ -1,17 +1,14 @@
 -- Laws of what specs/CurvedRefusals.antt defines. The head of that file lists the main results.
-use Rattle.std.specs.Prelude.{◌≡◌, List, [], ◌∷◌, ◌++◌, map, ℕ, ◌<◌, length, ℤ}
+use Rattle.std.specs.Prelude.{◌≡◌, List, ℕ, ◌<◌, ℤ}
 use Rattle.std.proofs.Common.{arith}
-use Rattle.integers.specs.Tests.{OneOf}
 use Rattle.placement.specs.declared.Placement.{Placement}
-use Rattle.tile.specs.Questions.{Question}
 use Rattle.tile.proofs.Laws.IfDone.{if_refused}
-use Rattle.tile.proofs.Laws.FirstNo.{EachNumber, each_number, first_no_among}
+use Rattle.tile.proofs.Laws.FirstNo.{each_number, first_no_among}
 use Rattle.sheet.specs.declared.Site.{Site}
 use Rattle.sheet.specs.declared.Site.TheVariants.{Alone, OnSheet}
 use Rattle.corrections.specs.declared.Change.{Change}
 use Rattle.corrections.specs.Corrections.{Tile}
-use Rattle.corrections.specs.Amending.{amend_questions}
-use Rattle.curves.specs.CurvedCorrections.{CurveCall, curve_call_of, edges_in, curve_call_questions, correct_curve_refusal, corrected_curve}
+use Rattle.curves.specs.CurvedCorrections.{CurveCall, curve_call_of, correct_curve_refusal, corrected_curve}
 use Rattle.curves.specs.CurvedRefusals.{CurvedRefusals, all_questions}
 
 at : (change : Change) (site : Site) (points : List ℤ) (count : ℕ) (marks : List ℕ) (placement : Placement) (t : Tile)

@@ -1,14 +1,11 @@
 -- Laws of what specs/Refusals.antt defines. The head of that file lists the main results.
-use Rattle.std.specs.Prelude.{◌≡◌, List, [], ◌∷◌, ◌↔◌, ℕ, ◌<◌, ℤ}
-use Rattle.integers.specs.ListSum.{All}
-use Rattle.tile.specs.Questions.{Yes, No, DecidedBy, question1, question4, question5, question6, question7}
-use Rattle.integers.specs.Tests.{OneOf}
+use Rattle.std.specs.Prelude.{◌≡◌, List, ◌↔◌, ℕ, ◌<◌, ℤ}
 use Rattle.tile.proofs.Laws.IfDone.{if_refused}
 use Rattle.tile.proofs.Laws.FirstNo.{each_number, first_no_among}
 use Rattle.frame_text.specs.Over.{over}
 use Rattle.frame_text.specs.Reading.{frame_of}
 use Rattle.frame_text.specs.OutputLines.{refusal_text}
-use Rattle.frame.specs.Output.{question11, frame_questions, frame_refusal, frame_table, output_text, table_after}
+use Rattle.frame.specs.Output.{frame_questions, frame_refusal, frame_table, output_text, table_after}
 use Rattle.frame.proofs.Laws.RefusalLines.{refusal_decides}
 use Rattle.frame.specs.Refusals.{FrameRefusals}
 

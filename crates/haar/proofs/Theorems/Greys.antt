@@ -1,5 +1,5 @@
 -- Laws of what specs/Greys.antt defines. The head of that file lists the main results.
-use Rattle.std.specs.Prelude.{◌≡◌, refl, ℕ, ◌+◌, ◌*◌, ◌<◌, ◌≤◌, ℤ, pos, neg_ℤ, nat_abs, ◌*ℤ◌}
+use Rattle.std.specs.Prelude.{◌≡◌, refl, pos, neg_ℤ}
 use Rattle.integers.specs.Units.{units_per_pixel, full_grey}
 use Rattle.integers.specs.MinMax.{min, max}
 use Rattle.integers.specs.Magnitude.{abs}

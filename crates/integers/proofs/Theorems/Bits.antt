@@ -1,5 +1,5 @@
 -- Laws of what specs/Bits.antt defines. The head of that file lists the main results.
-use Rattle.std.specs.Prelude.{◌≡◌, [], ◌∷◌, ℕ, ◌<◌, ◌^◌, ◌-◌, T, leb, ℤ, pos}
+use Rattle.std.specs.Prelude.{◌≡◌, [], ◌∷◌, ℕ, ◌<◌, ◌^◌, T, leb, ℤ, pos}
 use Rattle.std.proofs.Common.{sym, ◌∙◌, ap, leb→le, SFits, to_z, of_z, to_z-of_z}
 use Rattle.std.proofs.Math.Path.{subst⁻¹}
 use Rattle.std.specs.Int.Signed.{mag}

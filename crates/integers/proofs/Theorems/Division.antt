@@ -1,5 +1,5 @@
 -- Laws of what specs/Division.antt defines. The head of that file lists the main results.
-use Rattle.std.specs.Prelude.{◌≡◌, refl, [], ◌∷◌, ℕ, zero, suc, ◌/◌, ◌%◌, ◌<◌, ◌≤◌, ℤ, pos, negsuc, neg_ℤ, ◌+ℤ◌, ◌*ℤ◌, ◌≤ℤ◌, ◌<ℤ◌}
+use Rattle.std.specs.Prelude.{◌≡◌, refl, [], ◌∷◌, ℕ, zero, suc, ◌/◌, ◌%◌, ◌<◌, ◌≤◌, ℤ, pos, negsuc, neg_ℤ, ◌≤ℤ◌, ◌<ℤ◌}
 use Rattle.std.proofs.Common.{ap, arith, le_trans, lt_of_le_of_lt, mod-lt, div-le_self, ltb→lt, SFits}
 use Rattle.std.proofs.Math.Nat.{div-add-mod, mod-le}
 use Rattle.std.specs.Int.Signed.{mag, quot_z, rem_z, shr_z, mag_rem}

@@ -1,13 +1,13 @@
 -- Laws of what specs/Elimination.antt defines. The head of that file lists the main results.
-use Rattle.std.specs.Prelude.{◌≡◌, refl, List, [], ◌∷◌, Bool, true, false, ◌||◌, T, leb, ℤ, pos, negsuc, nat_abs, ◌+ℤ◌, ◌*ℤ◌, ◌≤ℤ◌}
+use Rattle.std.specs.Prelude.{◌≡◌, refl, List, [], ◌∷◌, Bool, true, false, ◌||◌, T, ℤ, pos, negsuc, nat_abs, ◌+ℤ◌, ◌*ℤ◌, ◌≤ℤ◌}
 use Rattle.std.proofs.Common.{sym, ◌∙◌, ap, subst}
 use Rattle.std.proofs.Math.Path.{subst⁻¹}
 use Rattle.std.proofs.Math.Option.{Option, none, some}
-use Prim.Native.Nat.{ℕ, zero, suc, ◌*◌, Ordering}
+use Prim.Native.Nat.{ℕ, zero, suc}
 use Rattle.std.proofs.Math.IntN.{+ℤ_idl, +ℤ_idr, zero-*ℤ}
 use Rattle.std.specs.Int.Signed.{≤ℤ_refl}
 use Rattle.integers.proofs.Theorems.RingLaws.{*ℤ-1}
-use Rattle.integers.specs.Polynomial.{Monomial, Polynomial, nil, term, compare_m, eval_m, eval_p, scale_p}
+use Rattle.integers.specs.Polynomial.{Monomial, Polynomial, nil, term, eval_m, eval_p, scale_p}
 use Rattle.integers.proofs.Theorems.Polynomial.{eval_scale}
 use Rattle.integers.proofs.Theorems.Order.{≤ℤ-add, ≤ℤ-mul-nonneg, nonneg}
 use Rattle.integers.specs.Elimination.{Hold, Refuted, Result, Stuck, cancel, coefficient, cons_if, eliminate, filter, is_negative, is_positive, is_zero, keep, negative, pairs, pivot, refuted, refuted!, step, stuck, tidy, with_each}

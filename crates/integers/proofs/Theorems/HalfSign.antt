@@ -1,5 +1,5 @@
 -- Laws of what specs/HalfSign.antt defines. The head of that file lists the main results.
-use Rattle.std.specs.Prelude.{◌≡◌, refl, ◌⊎◌, ℕ, zero, suc, ◌<◌, ℤ, pos, negsuc, ◌-ℤ◌, ◌*ℤ◌}
+use Rattle.std.specs.Prelude.{◌≡◌, refl, ◌⊎◌, ℕ, zero, suc, ◌<◌, pos, negsuc}
 use Rattle.std.proofs.Common.{inl, inr, arith}
 use Rattle.integers.specs.HalfSign.{half_sign}
 

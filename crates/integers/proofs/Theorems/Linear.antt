@@ -1,13 +1,13 @@
 -- Laws of what specs/Linear.antt defines. The head of that file lists the main results.
 use Rattle.std.specs.Prelude.{◌≡◌, List, [], ◌∷◌, ◌⊎◌, ℕ, ℤ, pos, ◌+ℤ◌, ◌-ℤ◌, ◌*ℤ◌, ◌≤ℤ◌, ◌<ℤ◌}
 use Rattle.std.proofs.Common.{sym, ◌∙◌, ap₂, subst, inl, inr}
-use Rattle.integers.specs.Polynomial.{◌⊟◌, Polynomial, eval_p, normal}
+use Rattle.integers.specs.Polynomial.{◌⊟◌, eval_p, normal}
 use Rattle.integers.proofs.Theorems.Polynomial.{eval_normal}
-use Rattle.integers.specs.Ring.{Reads, read_add, read_pos, expr}
+use Rattle.integers.specs.Ring.{Reads, expr}
 use Rattle.integers.proofs.Theorems.Ring.{expr_value, read, comb}
 use Rattle.integers.specs.Order.{Gap}
 use Rattle.integers.proofs.Theorems.Order.{≤ℤ-gap, gap-≤ℤ, add_one_≤ℤ, ≤ℤ_or_<ℤ, ≤ℤ-add, ≤ℤ_scale, ≤ℤ_antisym, ≤ℤ_of_≡}
-use Rattle.integers.specs.Elimination.{tidy, Refuted, eliminate, Hold}
+use Rattle.integers.specs.Elimination.{Refuted, eliminate, Hold}
 use Rattle.integers.proofs.Theorems.Elimination.{eval_tidy, eliminate_sound}
 use Rattle.integers.specs.Linear.{AllHold, Facts, Hyps, Ineqs, Refutes<, Refutes≤, Sure<, Sure≡, Sure≤, Task, end, excess, hyp, more, next, no_hyp, polynomials, rounds, task, ◌++ᵢ◌}
 

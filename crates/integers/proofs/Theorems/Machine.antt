@@ -1,13 +1,11 @@
 -- Laws of what specs/Machine.antt defines. The head of that file lists the main results.
-use Rattle.std.specs.Prelude.{◌≡◌, refl, List, Bool, true, false, ℕ, zero, suc, ◌+◌, ◌-◌, ◌^◌, ◌<◌, ◌≤◌, T, ℤ, pos, negsuc, neg_ℤ, ◌+ℤ◌, ◌-ℤ◌, ◌*ℤ◌, ◌≤ℤ◌, ◌<ℤ◌}
+use Rattle.std.specs.Prelude.{◌≡◌, List, Bool, true, false, ℕ, zero, suc, ◌+◌, ◌-◌, ◌^◌, ◌<◌, ◌≤◌, T, ℤ, pos, negsuc, neg_ℤ, ◌+ℤ◌, ◌≤ℤ◌, ◌<ℤ◌}
 use Rattle.std.proofs.Common.{sym, ◌∙◌, ap₂, arith, ltb→lt, leb→le, le→leb, to_z-of_z}
 use Rattle.std.specs.Int.Signed.{mag, le_z, lt_z, le_z_yes}
 use Rattle.std.specs.Int.{Width}
 use mir.Val.{SFits, hbits, to_z, of_z}
-use Rattle.integers.specs.Polynomial.{lit}
-use Rattle.integers.specs.Ring.{Reads, reads}
 use Rattle.integers.proofs.Theorems.Order.{≤ℤ_of_<ℤ, le_z-true, le_z-false, lt_z-true, lt_z-false, ≤ℤ-mul}
-use Rattle.integers.specs.Linear.{Ineqs, end, more, Facts, Hyps, next, Refutes≤}
+use Rattle.integers.specs.Linear.{Ineqs, end, more, Facts, next}
 use Rattle.integers.proofs.Theorems.Linear.{linear, ≤_of_refuted, le, ◌&◌}
 use Rattle.integers.specs.Machine.{Box, Fit, SureFit, bottom, fit, highest, lowest, read_back, top}
 

@@ -1,8 +1,8 @@
 -- Laws of what specs/Ring.antt defines. The head of that file lists the main results.
-use Rattle.std.specs.Prelude.{◌≡◌, refl, List, ◌∷◌, ℕ, suc, ◌+◌, ◌*◌, T, eqb, ℤ, pos, negsuc, neg_ℤ, ◌+ℤ◌, ◌-ℤ◌, ◌*ℤ◌}
-use Rattle.std.proofs.Common.{sym, ◌∙◌, ap, ap₂, add-one}
+use Rattle.std.specs.Prelude.{◌≡◌, List, ℤ, ◌+ℤ◌, ◌-ℤ◌, ◌*ℤ◌}
+use Rattle.std.proofs.Common.{sym, ◌∙◌, ap, ap₂}
 use Rattle.std.proofs.Math.IntN.{+ℤ-neg_ℤ_cancel, +ℤ_comm}
-use Rattle.integers.specs.Polynomial.{Expr, var, lit, ◌⊞◌, ◌⊠◌, ⊖◌, ⟦◌⟧, Same}
+use Rattle.integers.specs.Polynomial.{◌⊞◌, ⟦◌⟧}
 use Rattle.integers.proofs.Theorems.Polynomial.{same_value}
 use Rattle.integers.specs.Ring.{Balanced, Equations, Follows, Reads, Sides, atom0, atom1, atom10, atom11, atom12, atom13, atom14, atom15, atom2, atom3, atom4, atom5, atom6, atom7, atom8, atom9, equations, expr, read_add, read_mul, read_neg, read_negsuc, read_negsuc_open, read_pos, read_pos-add, read_pos-mul, read_pos-suc, read_unit, reads, sides}
 

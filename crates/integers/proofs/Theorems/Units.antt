@@ -1,5 +1,5 @@
 -- Laws of what specs/Units.antt defines. The head of that file lists the main results.
-use Rattle.std.specs.Prelude.{◌≡◌, refl, ℕ, ◌+◌, ◌*◌, ◌^◌}
+use Rattle.std.specs.Prelude.{◌≡◌, refl, ◌*◌, ◌^◌}
 use Rattle.integers.specs.Units.{built_entry_limit, figure_limit, greatest_coordinate, greatest_sheet_coordinate, greatest_side, greatest_tile_side, most_splits, numerator_limit, placed_limit, steps_per_pixel, units_per_pixel, width_times_extent_limit}
 
 pixel_is : units_per_pixel ≡ 131072

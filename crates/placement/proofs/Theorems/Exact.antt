@@ -2,10 +2,10 @@
 use Rattle.std.specs.Prelude.{◌≡◌, ℕ, ◌+◌, ◌*◌, ◌<◌, ◌≤◌, true, T, List, [], ◌∷◌, length, ℤ, pos, ◌+ℤ◌, ◌*ℤ◌, slice_index_or, unsigned_abs, Float}
 use Rattle.std.proofs.Common.{mul-le-mul, le_trans, lt_of_le_of_lt, arith, lit<, lit≤}
 use Rattle.std.specs.Float.{binary64}
-use Rattle.std.specs.Float.Ieee.{fits, of_int, mul, add, to_signed}
+use Rattle.std.specs.Float.Ieee.{fits, of_int, mul, add}
 use Rattle.std.specs.Float.Ieee.Fits.{add-fits}
 use Rattle.integers.specs.Units.{parts_per_step, factor_limit, offset_limit, movable_limit, placed_limit}
-use Rattle.placement.specs.Parts.{Value, parts_of, is_multiple, Inside, InParts, part_bits, per_step, one, nought}
+use Rattle.placement.specs.Parts.{Value, parts_of, is_multiple, Inside, part_bits, per_step}
 use Rattle.placement.specs.Placed.{parts_at, placeable}
 use Rattle.placement.specs.Ready.{Ready}
 use Rattle.placement.proofs.Laws.ExactArithmetic.{mul_exact, add_exact}

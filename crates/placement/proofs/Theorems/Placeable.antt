@@ -1,12 +1,12 @@
 -- Laws of what specs/Placeable.antt defines. The head of that file lists the main results.
-use Rattle.std.specs.Prelude.{◌≡◌, ◌-◌, true, false, ◌↔◌, List, [], ◌∷◌, ℤ, pos, negsuc, neg_ℤ, ◌≤ℤ◌, refl, Float}
+use Rattle.std.specs.Prelude.{◌≡◌, ◌-◌, true, false, ◌↔◌, List, [], ◌∷◌, ℤ, pos, negsuc, neg_ℤ, refl, Float}
 use Rattle.std.specs.Float.{fin}
 use Rattle.integers.specs.Units.{factor_limit, offset_limit, movable_limit}
 use Rattle.integers.specs.ListSum.{All}
 use Rattle.integers.specs.Rounding.{floor, round_half_up}
 use Rattle.integers.specs.Tests.{every}
 use Rattle.integers.proofs.Theorems.Tests.{and_means, every_means, between_means}
-use Rattle.placement.specs.Parts.{parts_of, is_multiple, Multiple, one, nought}
+use Rattle.placement.specs.Parts.{parts_of, is_multiple, one, nought}
 use Rattle.placement.specs.Placed.{row_usable, is_movable, placeable, placed}
 use Rattle.placement.proofs.Theorems.Multiples.{multiple_means}
 use Rattle.placement.specs.declared.Placement.{Placement}

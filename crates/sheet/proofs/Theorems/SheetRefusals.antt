@@ -1,13 +1,12 @@
 -- Laws of what specs/SheetRefusals.antt defines. The head of that file lists the main results.
-use Rattle.std.specs.Prelude.{◌≡◌, ◌&&◌, List, [], ◌∷◌, ◌↔◌, ℕ, ◌/◌, ◌<◌, ◌≤◌, leb, ltb, ℤ}
+use Rattle.std.specs.Prelude.{◌≡◌, ◌&&◌, List, ◌↔◌, ℕ, ◌/◌, ◌<◌, ◌≤◌, leb, ltb, ℤ}
 use Rattle.std.proofs.Common.{arith}
-use Rattle.integers.specs.ListSum.{All}
 use Rattle.integers.specs.Tests.{one_of, OneOf}
 use Rattle.integers.proofs.Theorems.Tests.{one_of_means, leb_means, ltb_means, and_means}
 use Rattle.placement.specs.declared.Placement.{Placement}
 use Rattle.placement.specs.Placed.{placed}
 use Rattle.accuracy.specs.Outline.{edge_count}
-use Rattle.tile.specs.Questions.{Question, Yes, No, DecidedBy, question2, question3, question4, question5, question6, question12}
+use Rattle.tile.specs.Questions.{Yes}
 use Rattle.tile.specs.Outcomes.{edges_of}
 use Rattle.tile.proofs.Laws.IfDone.{if_refused}
 use Rattle.tile.proofs.Laws.FirstNo.{each_number, first_no_among}

@@ -1,14 +1,12 @@
 -- Laws of what specs/SheetTheorem.antt defines. The head of that file lists the main results.
-use Rattle.std.specs.Prelude.{◌≡◌, List, ℕ, ◌*◌, ◌≤◌, length, ℤ}
+use Rattle.std.specs.Prelude.{◌≡◌, List, ℕ, ◌≤◌, ℤ}
 use Rattle.std.proofs.Common.{sym, ◌∙◌, subst, arith}
-use Rattle.integers.specs.Units.{most_edges}
 use Rattle.edge.specs.declared.Edge.{Edge}
 use Rattle.haar.specs.Plane.{at}
 use Rattle.placement.specs.declared.Placement.{Placement}
 use Rattle.placement.specs.Placed.{placed}
 use Rattle.placement.proofs.Laws.PlacedPoints.{placed-length}
-use Rattle.accuracy.specs.Outline.{contours_of, edge_count}
-use Rattle.accuracy.specs.Tile.{ClosedOnTile}
+use Rattle.accuracy.specs.Outline.{contours_of}
 use Rattle.accuracy.specs.OutlineTable.{tile_root}
 use Rattle.accuracy.specs.Accurate.{twice_tile_miss_limit}
 use Rattle.accuracy.proofs.Laws.Contours.{outline_closed, outline_on_tile}
@@ -16,7 +14,7 @@ use Rattle.accuracy.proofs.Laws.Coordinates.{contours_of-count, contours_of_on_t
 use Rattle.accuracy.proofs.Laws.Denominator.{denominator-pos}
 use Rattle.accuracy.proofs.Laws.Roots.{root_wholly_on}
 use Rattle.accuracy.proofs.Laws.SheetTiles.{from-tile_area, from-tile-closed, from-tile-length, from-tile_octilinear, from-tile-signed}
-use Rattle.tile.specs.Questions.{Yes, depth_of, question12}
+use Rattle.tile.specs.Questions.{depth_of}
 use Rattle.tile.specs.Outcomes.{edges_of}
 use Rattle.tile.proofs.Theorems.Refusals.{question2_means, question3_means, question5_means}
 use Rattle.tile.specs.Faithful.{Drawn}

@@ -17,11 +17,10 @@ use Rattle.accuracy.specs.OutlineTable.{tile_root, tile_table}
 use Rattle.accuracy.proofs.Laws.SheetTiles.{tiles_add_up}
 use Rattle.tile.specs.Questions.{depth_of}
 use Rattle.tile.specs.Outcomes.{edges_of}
-use Rattle.sheet.specs.declared.SheetTile.{SheetTile}
 use Rattle.tile.proofs.Laws.IfDone.{if_done_lem}
 use Rattle.tile.proofs.Laws.Sides.{side_power}
 use Rattle.tile.proofs.Laws.Accepted.{side_width}
-use Rattle.sheet.specs.SheetOutcomes.{tile_at, seen_from_tile, tile_entries, sheet_refusal, sheet_table}
+use Rattle.sheet.specs.SheetOutcomes.{tile_at, seen_from_tile, tile_entries, sheet_refusal}
 use Rattle.sheet.proofs.Theorems.SheetRefusals.{sheet_refusals, question15_means}
 use Rattle.sheet.proofs.Theorems.SheetTheorem.{sheet_accepted}
 use Rattle.sheet.proofs.Laws.Places.{sheet_power, sheet_tile_side, sheet_covers}

@@ -1,11 +1,11 @@
 -- Laws of what specs/AllLevels.antt defines. The head of that file lists the main results.
-use Rattle.std.specs.Prelude.{◌≡◌, List, ℕ, suc, ◌^◌, ◌≤◌, length, ℤ}
+use Rattle.std.specs.Prelude.{◌≡◌, List, ℕ, suc, ◌^◌, length, ℤ}
 use Rattle.std.proofs.Common.{sym, ◌∙◌, ap, arith}
 use Rattle.haar.specs.Greys.{grey_of}
 use Rattle.haar.specs.Pyramid.{places, pyramid_in}
 use Rattle.haar.proofs.Laws.Pyramid.{pyramid_level}
 use Rattle.tile.specs.Questions.{depth_of}
-use Rattle.tile.specs.Outcomes.{draw_refusal, greys_picture, pyramid_refusal, pyramid_pictures, level_part}
+use Rattle.tile.specs.Outcomes.{draw_refusal, pyramid_refusal, pyramid_pictures, level_part}
 use Rattle.tile.proofs.Theorems.Refusals.{drawing_refusals, pyramid_refusals, question7_means, question8_all_means}
 use Rattle.tile.proofs.Theorems.DrawnFigures.{greys_drawn_lem}
 use Rattle.tile.proofs.Laws.IfDone.{if_done_lem}

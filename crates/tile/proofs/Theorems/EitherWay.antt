@@ -2,7 +2,7 @@
 use Rattle.std.specs.Prelude.{◌≡◌, refl, Bool, ℕ, zero, suc, ◌*◌, ◌^◌, eqb, leb, length, ℤ, pos, neg_ℤ, ◌*ℤ◌}
 use Rattle.std.proofs.Common.{sym, ◌∙◌, ap, ap₂, arith}
 use Rattle.std.proofs.Math.Path.{fun_ext}
-use mathlib.Core.List.{List, [], ◌∷◌, map, reverse_perm}
+use mathlib.Core.List.{List, [], ◌∷◌, reverse_perm}
 use Rattle.std.proofs.lemmas.List.{length-map}
 use Rattle.integers.specs.Units.{steps_per_pixel, most_edges, entry_limit}
 use Rattle.integers.proofs.Theorems.Ring.{read, ring}

@@ -1,8 +1,7 @@
 -- Laws of what specs/EntrySearch.antt defines. The head of that file lists the main results.
-use Rattle.std.specs.Prelude.{◌≡◌, refl, ◌↔◌, ◌⊎◌, Bool, List, [], ◌∷◌, ◌++◌, ℕ, suc, length, take, ℤ, pos, neg_ℤ}
+use Rattle.std.specs.Prelude.{◌≡◌, refl, ◌↔◌, ◌⊎◌, List, [], ◌∷◌, ◌++◌, ℕ, suc, length, take, ℤ, pos, neg_ℤ}
 use Rattle.integers.specs.Units.{entry_limit}
 use Rattle.integers.specs.ListSum.{All}
-use Rattle.integers.specs.Tests.{between}
 use Rattle.integers.proofs.Theorems.Tests.{within_means}
 use Rattle.integers.specs.Within.{Within}
 use Rattle.integers.proofs.Theorems.Search as general

@@ -1,17 +1,11 @@
 -- Laws of what specs/Letters.antt defines. The head of that file lists the main results.
-use Rattle.std.specs.Prelude.{◌≡◌, refl, List, [], ◌∷◌, ℕ, suc, ◌*◌, ◌/◌, ◌^◌, length, drop, ℤ, pos, neg_ℤ}
+use Rattle.std.specs.Prelude.{◌≡◌, refl, List, ℕ, ◌*◌, ◌^◌, length, ℤ}
 use Rattle.std.proofs.Common.{◌∙◌, ap}
 use Rattle.integers.specs.ListSum.{All, tally}
-use Rattle.edge.specs.declared.Edge.{Edge}
-use Rattle.edge.specs.Walk.{steps}
-use Rattle.edge.specs.Integrals.{h_num}
-use Rattle.edge.specs.Rounded.{details}
 use Rattle.edge.proofs.Laws.Letters.{f, f-steps, f_h, f-details, g, g-steps, g_h, g-details}
 use Rattle.haar.specs.Greys.{grey_of}
 use Rattle.haar.specs.Plane.{picture_in}
-use Rattle.accuracy.specs.Tile.{tile}
-use Rattle.tile.specs.Questions.{depth_of}
-use Rattle.tile.specs.Outcomes.{if_done, edges_of, table_of, build_refusal, build_table, draw_refusal, figures_picture, greys_picture}
+use Rattle.tile.specs.Outcomes.{if_done, table_of, build_refusal, build_table, draw_refusal}
 use Rattle.tile.proofs.Theorems.Refusals.{building_refusals, question2_means}
 use Rattle.tile.proofs.Laws.IfDone.{if_done_lem}
 use Rattle.tile.proofs.Laws.Computed.{computed_table, table_of_computed, computed_picture}

@@ -14,7 +14,7 @@ use Rattle.placement.specs.Placed.{placed}
 use Rattle.placement.specs.Placeable.{Placeable}
 use Rattle.placement.proofs.Theorems.Placeable.{placeable_means}
 use Rattle.accuracy.specs.Outline.{edge_count}
-use Rattle.tile.specs.Questions.{Yes, No, DecidedBy, depth_of, question1, question2, question3, question4, question5, question6, question7, question8, question9, question10, question12}
+use Rattle.tile.specs.Questions.{Yes, depth_of, question1, question2, question3, question4, question5, question6, question7, question8, question9, question10, question12}
 use Rattle.tile.specs.Questions.{question8_all, building_questions, placed_questions, drawing_questions, cell_questions, pyramid_questions}
 use Rattle.tile.specs.Outcomes.{table_of, build_refusal, build_result, build_table, placed_refusal, placed_result, placed_table, draw_refusal, figures_picture, greys_picture, cell_refusal, cell_result, pyramid_refusal, pyramid_pictures}
 use Rattle.tile.proofs.Laws.IfDone.{if_refused}

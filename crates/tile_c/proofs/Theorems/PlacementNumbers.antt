@@ -1,8 +1,6 @@
 -- Laws of what specs/PlacementNumbers.antt defines. The head of that file lists the main results.
-use Rattle.std.specs.Prelude.{◌≡◌, refl, false, cond, List, [], ◌∷◌, ◌≢◌, eqb, length, get_or, ℤ, pos, Float}
+use Rattle.std.specs.Prelude.{◌≡◌, refl, List, [], ◌∷◌, ◌≢◌, length, ℤ, Float}
 use Rattle.std.proofs.Common.{◌∙◌, ap, ne_eqb}
-use Rattle.std.specs.Float.{nan, fin}
-use Rattle.placement.specs.declared.Placement.{Placement}
 use Rattle.placement.specs.declared.Placement.TheVariants.{None, Shift, Scale, Turn}
 use Rattle.placement.specs.Parts.{is_multiple}
 use Rattle.tile.specs.Questions.{No, question12}
