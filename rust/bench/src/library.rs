@@ -58,7 +58,7 @@ pub struct Opened {
 }
 
 impl Opened {
-    /// Opens `libtile_c.a` as `rt staticlib tile_c` made it. It is never closed.
+    /// Opens `libtile_c.a` as rt made it, by `rt lib` today. It is never closed.
     pub fn open(archive: &Path) -> Result<Opened, String> {
         let folder = Folder::new()?;
         let shared = folder.0.join("libtile_c.so");

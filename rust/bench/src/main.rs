@@ -45,7 +45,7 @@ Takes some minutes; let nothing else run.
     --print         writes the page to standard output instead
     --quick         the same, after few rounds: a look, whose times nobody keeps
     --before FILE   an earlier library too, in the same rounds: FILE is the
-                    libtile_c.a that `rt staticlib tile_c` made of it. Leave it in
+                    libtile_c.a that rt made of it. Leave it in
                     the checkout that it was made in, whose commit the page names.
     --help          writes this
 ";
