@@ -7,13 +7,13 @@
 -- one record has how the root is had of the edges, and twice the limit of a miss, for parameters.
 --
 -- Definitions
---   miss_from root depth es level cx cy     how far the figure of a cell lies from 4^level times its exact area, `denominator es` times over
+--   miss_from root depth es level cx cy      how far the figure of a cell lies from 4^level times its exact area, `denominator es` times over
 --   twice_miss_limit level edges             twice 01's limit of that distance, in units: (4^level − 1) × edges
---   twice_tile_miss_limit level edges         and twice 02's, for a tile of a sheet: 4^level × edges
+--   twice_tile_miss_limit level edges        and twice 02's, for a tile of a sheet: 4^level × edges
 --   Accurate root_of twice_limit depth es    what is promised of closed edges es and a tile of side 2^depth, which lies at the origin
---   AccurateAlone depth es                 that of edges on the tile, with the signed area for the root
---   AccurateOutline depth contours         and of an outline
---   AccurateOnSheet depth es               that of edges of which some may lie beyond the tile, as seen from its corner
+--   AccurateAlone depth es                   that of edges on the tile, with the signed area for the root
+--   AccurateOutline depth contours           and of an outline
+--   AccurateOnSheet depth es                 that of edges of which some may lie beyond the tile, as seen from its corner
 use Rattle.std.specs.Prelude.{◌≡◌, ℕ, suc, ◌+◌, ◌*◌, ◌-◌, ◌/◌, ◌%◌, ◌^◌, ◌<◌, ◌≤◌, length, ℤ, pos, ◌+ℤ◌, ◌-ℤ◌, ◌*ℤ◌, ◌≤ℤ◌}
 use mathlib.Core.List.{List, Perm, map, reverse}
 use Rattle.integers.specs.Units.{greatest_depth, most_edges, built_entry_limit}

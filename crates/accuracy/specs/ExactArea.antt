@@ -6,7 +6,7 @@
 -- `steps e` is |dx| × |dy|, a difference of 0 counted as 1. The fractions are added over one denominator, the product of theirs.
 --
 -- Definitions
---   denominator es                        the denominator, the same for every cell
+--   denominator es                          the denominator, the same for every cell
 --   exact_area_num depth es level cell      the numerator: the exact area is this over `denominator es`
 use Rattle.std.specs.Prelude.{List, ℕ, ℤ}
 use Rattle.integers.specs.Fraction.{common, numer}

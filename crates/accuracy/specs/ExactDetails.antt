@@ -1,11 +1,11 @@
 -- The exact details of a cell, before anything is rounded: sums over the edges, over the same denominator as its exact area.
 --
 -- Definitions
---   numbered w k                          h, v or d of w, by its number
---   unrounded e square                    the numerators of one edge's exact h, v and d
---   detail_num square k e                  the same by its number
+--   numbered w k                            h, v or d of w, by its number
+--   unrounded e square                      the numerators of one edge's exact h, v and d
+--   detail_num square k e                   the same by its number
 --   exact_detail_num depth es j cell k      the numerator of exact detail k of a cell: the detail is this over `denominator es`
---   QuarterDifferences q w                the details w are 01's differences of the areas q of a cell's quarters
+--   QuarterDifferences q w                  the details w are 01's differences of the areas q of a cell's quarters
 use Rattle.std.specs.Prelude.{◌≡◌, List, ℕ, zero, suc, ℤ, pos, ◌+ℤ◌, ◌-ℤ◌}
 use Rattle.integers.specs.Fraction.{numer}
 use Rattle.edge.specs.declared.Edge.{Edge}

@@ -1,15 +1,15 @@
 -- An outline and its edges.
 --
 -- Definitions
---   Point                        a point, in 01's steps of 1/256 pixel
+--   Point                          a point, in 01's steps of 1/256 pixel
 --   points_of, contours_of         the points of a list of coordinates, x and y in turn; and the contours, by their counts
---   point_at coordinates k        point k of a list of coordinates
---   edge_count counts             the counts' sum
---   edge_between p q              the edge from p to q
---   through p qs last            the edges from p through the points qs to the last
+--   point_at coordinates k         point k of a list of coordinates
+--   edge_count counts              the counts' sum
+--   edge_between p q               the edge from p to q
+--   through p qs last              the edges from p through the points qs to the last
 --   contour_edges, outline_edges   the edges of one contour, and of all contours of an outline
---   signed_area es                the signed area that edges enclose, in 01's units of half a square step
---   gain f e, ClosedEdges es     what a function of a point gains along an edge; in closed edges the gains add up to 0
+--   signed_area es                 the signed area that edges enclose, in 01's units of half a square step
+--   gain f e, ClosedEdges es       what a function of a point gains along an edge; in closed edges the gains add up to 0
 use Rattle.std.specs.Prelude.{◌≡◌, List, [], ◌∷◌, ◌++◌, ℕ, ◌+◌, ◌*◌, get_or, take, drop, ℤ, pos, ◌-ℤ◌}
 use Rattle.integers.specs.ListSum.{total, tally}
 use Rattle.edge.specs.declared.Edge.{Edge}

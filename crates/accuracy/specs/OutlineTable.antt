@@ -1,8 +1,8 @@
 -- The table of an outline: what each edge adds to each entry, added up over the edges.
 --
 -- Definitions
---   edge_table depth e                     what one edge adds: its term of the signed area, and its three rounded details in each cell
---   outline_table depth es                 the sums over the edges
+--   edge_table depth e                      what one edge adds: its term of the signed area, and its three rounded details in each cell
+--   outline_table depth es                  the sums over the edges
 --   rooted_table, table_from                the same with another root
 --   tile_root, tile_table depth es          and with the root that a tile of a sheet has: edges may lie beyond the tile
 use Rattle.std.specs.Prelude.{List, ℕ, ℤ}

@@ -4,10 +4,10 @@
 -- `from-tile_area` of Laws/SheetTiles.
 --
 -- Definitions
---   corner depth t               where tile number t begins in one direction, in steps: "in whole tiles"
+--   corner depth t                where tile number t begins in one direction, in steps: "in whole tiles"
 --   from_tile depth tx ty es      the edges as they are seen from the corner of tile (tx, ty) of side 2^depth
 --   seen_sheet wide depth tx ty   the sheet of side 2^wide, as it is seen from there
---   cell_on_sheet                  a cell of the tile, at its place on the sheet
+--   cell_on_sheet                 a cell of the tile, at its place on the sheet
 use Rattle.std.specs.Prelude.{List, map, ℕ, ◌*◌, ℤ, pos, ◌-ℤ◌}
 use Rattle.edge.specs.declared.Edge.{Edge}
 use Rattle.edge.specs.declared.Cell.{Cell as Square}

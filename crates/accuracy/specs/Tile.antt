@@ -1,7 +1,7 @@
 -- The tile of side 2^depth pixels, and its cells as squares, in steps.
 --
 -- Definitions
---   cell_width depth level        how wide a cell of a level is
+--   cell_width depth level       how wide a cell of a level is
 --   square depth level cell      the square of a cell
 --   tile depth                   the whole tile, from 0 to its width: the cell of level 0
 --   OnTile depth p               a point on the tile

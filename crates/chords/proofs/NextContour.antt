@@ -1,10 +1,10 @@
 -- The contour that is next in an outline, as slices of marks and points.
 --
 -- Main results
---   Walked, contours_left         the first k contours are behind, with so many marks and coordinates; those that are left
+--   Walked, contours_left        the first k contours are behind, with so many marks and coordinates; those that are left
 --   walked_none, contours_end    none is behind; all are
 --   marks_there, points_there    the next contour's marks and points are there
---   own_marks, own_points          these, as the slices that code takes
+--   own_marks, own_points        these, as the slices that code takes
 --   own_length, own_count        how many they are
 --   outline_next, walked_next    it is the first of those that are left, by its edges; the others are left then
 --   own_has                      what all placed coordinates have, its own have

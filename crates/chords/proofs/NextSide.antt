@@ -1,7 +1,7 @@
 -- The side that is next in a contour, by the point that it begins at.
 --
 -- Main results
---   sides_left, Reached           the sides with the marks from k on, the first of which begins at point `at`; there are as many coordinates as they have numbers
+--   sides_left, Reached          the sides with the marks from k on, the first of which begins at point `at`; there are as many coordinates as they have numbers
 --   reached_none, sides_end,
 --   chords_end                   none is behind; all are
 --   numbers_next, own_numbers    the next side's numbers, and those of the others; they are there

@@ -2,9 +2,9 @@
 -- chords": all that is said of edges elsewhere, of their table, of what is drawn of it and how near that is, is said of these.
 --
 -- Definitions
---   splits_of c                   k, of the 2^k chords of a curve
---   chord_point c i               the ends of its chords, number 0 to 2^k
---   chords_of s                   the edges of a side
+--   splits_of c                    k, of the 2^k chords of a curve
+--   chord_point c i                the ends of its chords, number 0 to 2^k
+--   chords_of s                    the edges of a side
 --   contour_chords, outline_chords those of a contour, and of an outline
 use Rattle.std.specs.Prelude.{List, [], ◌∷◌, ℕ, suc, ◌^◌}
 use Rattle.integers.specs.ListSum.{joined}

@@ -3,7 +3,7 @@
 -- Definitions
 --   next_from n k                 the point k of n, or the first where there is no such point
 --   curve_at zs n k, side_at m zs k
---                                the curve, and the side with the mark m, that begin at point k of a contour with the coordinates zs
+--                                 the curve, and the side with the mark m, that begin at point k of a contour with the coordinates zs
 --   capped_chords cs              the number of an outline's edges, or one more than the most where it is greater
 use Rattle.std.specs.Prelude.{cond, List, ℕ, suc, ◌+◌, ◌/◌, eqb, leb, ltb, length, ℤ}
 use Rattle.integers.specs.Units.{most_edges}

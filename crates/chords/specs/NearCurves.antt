@@ -1,11 +1,11 @@
 -- "It is proved that before this rounding no chord leaves its curve by more than one step in x or y", of every curve of an outline on a sheet.
 --
 -- Definitions
---   NearChords s                 the chords of a side are near it: nothing is asked of a straight one, which is its own chord
+--   NearChords s                  the chords of a side are near it: nothing is asked of a straight one, which is its own chord
 --   outline_sides cs              the sides of an outline
 -- Main results (the laws among them are in proofs/Theorems/NearCurves.antt)
---   side_near                    so they are of a side whose coordinates are on a sheet
---   sides_near                   and so they are of every side of an outline whose coordinates, control points' too, are on a sheet
+--   side_near                     so they are of a side whose coordinates are on a sheet
+--   sides_near                    and so they are of every side of an outline whose coordinates, control points' too, are on a sheet
 use Rattle.std.specs.Prelude.{List}
 use Rattle.integers.specs.ListSum.{joined}
 use Rattle.curve.specs.ChordsNear.{ChordsNear}

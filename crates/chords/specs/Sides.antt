@@ -4,7 +4,7 @@
 -- begins, and the last at the contour's first point; so a curved last edge has its control point at the very end of the contour's coordinates.
 --
 -- Definitions
---   Side, Curve                  the code's: `Straight` of an edge, `Curved` of a curve, which has two ends and a control point
+--   Side, Curve                   the code's: `Straight` of an edge, `Curved` of a curve, which has two ends and a control point
 --   numbers_of m, numbers ms      how many numbers an edge with the mark m has, and edges with the marks ms
 --   curve_between p c q           the curve from p to q with the control point c
 --   side_to m zs q                the side with the mark m that ends at q; its own numbers are the first of zs

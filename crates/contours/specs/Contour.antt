@@ -1,8 +1,8 @@
 -- The edges of a contour, one by one, from its list of coordinates: x and y in turn.
 --
 -- Definitions
---   next n k                     the point after point k of n: after the last, the first
---   edge_of points n k            the edge from point k to the next
+--   next n k                       the point after point k of n: after the last, the first
+--   edge_of points n k             the edge from point k to the next
 --   edge_entry, edges_from         what edge k of a contour adds to entry i of the table, and what m edges from k on add
 use Rattle.std.specs.Prelude.{cond, List, ℕ, ◌+◌, ◌/◌, ltb, length, ℤ}
 use Rattle.integers.specs.RangeSum.{Σ<}

@@ -2,24 +2,24 @@
 -- from its first point to its last, and an area in the signs of the quarter that it lies in.
 --
 -- Definitions
---   ancestor depth K x y j               the cell of level j that cell (x, y) of level K lies in
---   half_at K n j                         the half of it, in one direction, that number n of level K lies in
---   with_area w a i j                     details w, with the area a of something in quarter (i, j)
---   part_in e a c u v i                   what edge e and area a, in quarter (u, v) of cell c, add to entry i in that cell
---   level_part e a depth K x y j i        the same in the cell of level j above cell (x, y) of level K, in which e and a lie
---   above e a depth K x y i              and in all the cells above it
---   run_levels, widest_run, longest_run     how many levels a run's cell is above a pixel, how wide it is, in steps; how many edges a run may have
---   triangle_limit                        what one more edge adds to a run's area at most
+--   ancestor depth K x y j                 the cell of level j that cell (x, y) of level K lies in
+--   half_at K n j                          the half of it, in one direction, that number n of level K lies in
+--   with_area w a i j                      details w, with the area a of something in quarter (i, j)
+--   part_in e a c u v i                    what edge e and area a, in quarter (u, v) of cell c, add to entry i in that cell
+--   level_part e a depth K x y j i         the same in the cell of level j above cell (x, y) of level K, in which e and a lie
+--   above e a depth K x y i                and in all the cells above it
+--   run_levels, widest_run, longest_run    how many levels a run's cell is above a pixel, how wide it is, in steps; how many edges a run may have
+--   triangle_limit                         what one more edge adds to a run's area at most
 --   run_square c, run_node depth c         the cell of a run: its square, and with its level
 --   square_at c w, parent_spot c           a cell's square by its width, and the cell above it
---   triangle s m t                       the area between the edges from s to m and from m to t and the edge from s to t
---   from_half i side w p q                how far p and q, in half i of a range, lie from that half's side of the range, added up
---   details_in e s i j                    the details of an edge in quarter (i, j) of a square
---   AboveReady t e a depth c             what adding a chord and an area in the cells above a run's cell asks for
---   RunReady t points depth k c          what a run from edge k on asks for
---   NextReady view t points depth k      what adding edge k, and edges after it, asks for
---   HasRuns b view sign depth            b is yes only where edges may be added in runs
---   Along depth points k c before t r    a run has come so far: once its chord and its area are added above its cell, its edges are added
+--   triangle s m t                         the area between the edges from s to m and from m to t and the edge from s to t
+--   from_half i side w p q                 how far p and q, in half i of a range, lie from that half's side of the range, added up
+--   details_in e s i j                     the details of an edge in quarter (i, j) of a square
+--   AboveReady t e a depth c               what adding a chord and an area in the cells above a run's cell asks for
+--   RunReady t points depth k c            what a run from edge k on asks for
+--   NextReady view t points depth k        what adding edge k, and edges after it, asks for
+--   HasRuns b view sign depth              b is yes only where edges may be added in runs
+--   Along depth points k c before t r      a run has come so far: once its chord and its area are added above its cell, its edges are added
 use Rattle.std.specs.Prelude.{◌≡◌, Bool, true, cond, List, ℕ, zero, suc, ◌+◌, ◌*◌, ◌-◌, ◌/◌, ◌%◌, ◌^◌, ◌<◌, ◌≤◌, ltb, length, ℤ, pos, neg_ℤ, ◌+ℤ◌, ◌-ℤ◌, ◌*ℤ◌}
 use Rattle.integers.specs.Units.{steps_per_pixel, greatest_depth, detail_limit}
 use Rattle.integers.specs.Within.{Within}

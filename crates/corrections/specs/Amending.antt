@@ -5,9 +5,9 @@
 --   left_by site change es table  the table that is left
 --   amend_questions               13, 9
 --   amend_refusal, amended        the number, and the tile afterwards
---   Amendable                    what the questions about the contour have answered, of a contour with marks
+--   Amendable                     what the questions about the contour have answered, of a contour with marks
 -- Main results (the laws among them are in proofs/Theorems/Amending.antt)
---   same_questions               what a call on a contour of points asks last are these
+--   same_questions                what a call on a contour of points asks last are these
 use Rattle.std.specs.Prelude.{◌≡◌, List, [], ◌∷◌, ℕ, ◌+◌, ◌≤◌, length, get_or, ℤ, pos, ◌*ℤ◌}
 use Rattle.integers.specs.Units.{most_edges}
 use Rattle.edge.specs.declared.Edge.{Edge}

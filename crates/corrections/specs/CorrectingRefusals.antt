@@ -8,7 +8,7 @@
 --   put_never_13, take_never_5                 putting in is never answered 13, taking out never 5
 --   refused_tile                               "A refused call changes nothing."
 --   question5_beside_means, question13_means,
---   question9_twice_means                       what "yes" says
+--   question9_twice_means                      what "yes" says
 use Rattle.std.specs.Prelude.{◌≡◌, ◌↔◌, List, [], ◌∷◌, ◌++◌, ℕ, ℤ}
 use Rattle.integers.specs.ListSum.{All}
 use Rattle.integers.specs.Tests.{OneOf}

@@ -2,19 +2,19 @@
 -- and added goes by the site (`Sites` of `sheet`): at `Alone side` it is what it is without sheets.
 --
 -- Definitions
---   Tile                         a table, and the record of its edge count
---   Call                         a call, but for the tile that it is made on: `Change`, putting in or taking out, is the code's
---   contour_of k                  the contour of a call
---   part site c i                what a contour adds to entry i of a tile's table
---   sign_of                       what its values are multiplied by
---   would_leave k t               the table that a call would leave
---   question13, question9_twice   02's questions about the record and the range
+--   Tile                           a table, and the record of its edge count
+--   Call                           a call, but for the tile that it is made on: `Change`, putting in or taking out, is the code's
+--   contour_of k                   the contour of a call
+--   part site c i                  what a contour adds to entry i of a tile's table
+--   sign_of                        what its values are multiplied by
+--   would_leave k t                the table that a call would leave
+--   question13, question9_twice    02's questions about the record and the range
 --   already_in, taken_out          what questions 5 and 13 read of the record and of the count
---   contour_questions             what a call asks first, about its contour: 1, 2, 4, 5, 3, 12, 6, or on a sheet 14, 15, 2, 4, 5, 3, 12, 6
---   tile_questions                and then, about the tile: 13, 9
---   correcting_questions          all of them
---   correct_refusal               the number that it answers
---   edges_after, corrected        the record and the tile afterwards
+--   contour_questions              what a call asks first, about its contour: 1, 2, 4, 5, 3, 12, 6, or on a sheet 14, 15, 2, 4, 5, 3, 12, 6
+--   tile_questions                 and then, about the tile: 13, 9
+--   correcting_questions           all of them
+--   correct_refusal                the number that it answers
+--   edges_after, corrected         the record and the tile afterwards
 --   tile_of, call_of, putting,
 --   taking, putting_on, taking_on  a tile and a call from what the code is given
 use Rattle.std.specs.Prelude.{◌&&◌, List, [], ◌∷◌, ◌++◌, ℕ, ◌+◌, ◌-◌, leb, get_or, ℤ, pos, negsuc, ◌*ℤ◌}

@@ -9,8 +9,8 @@
 -- does any other such pair. Which contours were put in is said by a series of calls (`Series`).
 --
 -- Definitions
---   empty_tile side               a table of zeros, and no edge
---   built_as number edges         what building answers
+--   empty_tile side              a table of zeros, and no edge
+--   built_as number edges        what building answers
 --   HoldsContours site cs t      the tile t, at that site, holds the contours cs
 --   HoldsOneMore, HoldsOneLess   what is promised of putting in and of taking out
 use Rattle.std.specs.Prelude.{◌≡◌, ℕ, ◌*◌, length, replicate, ℤ, pos}

@@ -9,6 +9,6 @@ pub mod Corrections
 -- the part of it that does not know what kind of contour it is
 pub mod Amending
 pub mod CorrectingRefusals
--- ---- what a tile holds, what each call makes of it, the law of a series of calls, and that it holds
+-- ---- what a tile holds, what each call makes of it, the law of a series of calls
 pub mod Holding
 pub mod Series

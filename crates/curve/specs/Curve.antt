@@ -3,14 +3,14 @@
 -- At the parameter i / n the curve is at ((n − i)² p + 2 i (n − i) q + i² r) / n². "A curve becomes 2^k chords at equal parameter steps."
 --
 -- Definitions
---   OnSheet z                    z is a coordinate of the greatest sheet
---   bend p q r                   p − 2 q + r
+--   OnSheet z                     z is a coordinate of the greatest sheet
+--   bend p q r                    p − 2 q + r
 --   curve_num p q r n i           n² times where the curve is at the parameter i / n
 --   chord_num p q r n i b a       n² b times where chord i of n is, a / b of its way along, before its ends are rounded
 --   bend_limit k                  4 × 4^k
---   IsFlat k z, flat k z         z is at most that in magnitude
+--   IsFlat k z, flat k z          z is at most that in magnitude
 --   splits_from m k u v           the search for it, from k on
---   splits u v                   k: the least from 0 to 7 for which both bends are flat, and 7 where none is, which on a sheet does not happen
+--   splits u v                    k: the least from 0 to 7 for which both bends are flat, and 7 where none is, which on a sheet does not happen
 --   chord_end p q r k i           end i of the 2^k chords, rounded to the nearest step, halves towards the larger
 use Rattle.std.specs.Prelude.{Bool, ◌&&◌, cond, ℕ, zero, suc, ◌*◌, ◌^◌, ℤ, pos, neg_ℤ, ◌+ℤ◌, ◌-ℤ◌, ◌*ℤ◌, ◌≤ℤ◌}
 use Rattle.integers.specs.Units.{greatest_sheet_coordinate, most_splits}

@@ -1,7 +1,7 @@
 -- What building an outline with marks answers, and what the table holds afterwards, for every input. "Edge counts and closeness are then those of the chords."
 --
 -- Definitions
---   refusal n                    a refusal, which carries no edge
+--   refusal n                     a refusal, which carries no edge
 --   marked_result                 what the questions about the outline answer: the number, and the edges where it is 0
 --   curves_refusal, curves_result,
 --   curves_table                  the number; the number and the edge count; the table afterwards

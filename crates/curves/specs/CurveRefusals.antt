@@ -9,7 +9,7 @@
 --   refused_curves_edges,
 --   refused_curves_table                     a refusal carries the edge count 0, and the table keeps what it held
 --   question16_means, question3_marked_means,
---   question5_chords_means                    what "yes" says
+--   question5_chords_means                   what "yes" says
 use Rattle.std.specs.Prelude.{List, [], ◌∷◌, map, ℕ, ℤ}
 use Rattle.integers.specs.Tests.{OneOf}
 use Rattle.placement.specs.declared.Placement.{Placement}

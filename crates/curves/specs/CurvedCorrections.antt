@@ -2,13 +2,13 @@
 -- once the questions about the contour are answered is `corrections`' (`Amending`), of its edges.
 --
 -- Definitions
---   CurveCall                    a call, but for the tile that it is made on
+--   CurveCall                      a call, but for the tile that it is made on
 --   contour_in k, edges_in k       its contour, and the edges that this is drawn as
 --   curve_call_questions           what a call asks about its contour: 1 or 14 and 15, and 2, 4, 16, 3, 12, 6, 5; for putting in 5 counts the record's edges too
 --   correct_curve_refusal          the number that it answers: after these 13 and 9
---   corrected_curve               the tile afterwards
+--   corrected_curve                the tile afterwards
 --   curve_call_of, putting_curve,
---   taking_curve                  a call from what the code is given
+--   taking_curve                   a call from what the code is given
 use Rattle.std.specs.Prelude.{List, [], ◌∷◌, ◌++◌, ℕ, length, ℤ}
 use Rattle.edge.specs.declared.Edge.{Edge}
 use Rattle.placement.specs.declared.Placement.{Placement}

@@ -6,9 +6,9 @@
 --
 -- Definitions
 --   straight c                   a contour of points as one with marks
---   is_shaped c                   question 3 of one contour: as many coordinates as its marks say
+--   is_shaped c                  question 3 of one contour: as many coordinates as its marks say
 --   written_points, written_counts,
---   written_marks                 contours written as an outline, as building takes it
+--   written_marks                contours written as an outline, as building takes it
 --   HoldsCurves site cs t        the tile t, at that site, holds the contours cs
 --   NearContour                  the distance, of the curved edges of a call that is not refused
 --   HoldsOneMoreCurve,

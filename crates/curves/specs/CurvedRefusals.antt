@@ -2,7 +2,7 @@
 -- leaves. (`EachNumber`: as in `CurveRefusals`.)
 --
 -- Definitions
---   all_questions k t             what a call asks, in order
+--   all_questions k t                  what a call asks, in order
 -- Main results (the laws among them are in proofs/Theorems/CurvedRefusals.antt)
 --   CurvedRefusals, curved_refusals    for a tile alone 1, 2, 4, 16, 3, 12, 6, 5, 13, 9; for a tile of a sheet 14, 15, 2, 4, 16, 3, 12, 6, 5, 13, 9
 --   refused_curve                      "A refused call changes nothing."

@@ -4,13 +4,13 @@
 -- What a series is, and what is lawful in it, is `corrections`' `Series`, word for word, with these calls.
 --
 -- Definitions
---   AnyCall                      a call of either kind
+--   AnyCall                        a call of either kind
 --   site_of, change_of, contour_any,
 --   number_of, after_of            its site, what it does with its contour, what it answers and leaves
---   straight_in                   the contour of a call without marks
---   any_calls                     the six calls, as their contracts have them
---   AtSite site k                a call that belongs to a series on a tile at that site
---   CurveSeries site             a series of them
+--   straight_in                    the contour of a call without marks
+--   any_calls                      the six calls, as their contracts have them
+--   AtSite site k                  a call that belongs to a series on a tile at that site
+--   CurveSeries site               a series of them
 use Rattle.std.specs.Prelude.{◌≡◌, List, ℕ, replicate}
 use Rattle.integers.specs.ListSum.{All}
 use Rattle.placement.specs.Placed.{placed}

@@ -5,7 +5,7 @@
 -- contract.
 --
 -- Definitions
---   exact_area_at                  01's exact area of a cell of the tile, at its place: the numerator
+--   exact_area_at                01's exact area of a cell of the tile, at its place: the numerator
 --   FaithfulAt                   what is promised of edges at a site, and of the table that they left
 --   FaithfulCurves               what is promised of the table that building left
 use Rattle.std.specs.Prelude.{◌≡◌, List, ℕ, length, ℤ}

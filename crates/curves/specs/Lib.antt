@@ -19,5 +19,5 @@ pub mod NoCurves
 pub mod CurvedCorrections
 pub mod CurvedRefusals
 pub mod CurvedHolding
--- the law of a series of corrections in which both kinds of contours are mixed, and that it holds
+-- the law of a series of corrections in which both kinds of contours are mixed
 pub mod CurvedSeries

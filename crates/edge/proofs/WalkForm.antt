@@ -1,10 +1,10 @@
 -- The walk that `walk_of` answers, in the definitions' steps or in unit steps: what holds of every walk holds of it, and its sums, rounded, are what its edge adds.
 --
 -- Main results
---   every-walk                     what holds of every walk in steady directions
+--   every-walk                      what holds of every walk in steady directions
 --   sums_on, walk-details           h, v and d along a walk; rounded, the edge's details
---   walk_area                      the area along it; rounded, the edge's
---   walk-zero                      over its divisor 0 is 0
+--   walk_area                       the area along it; rounded, the edge's
+--   walk-zero                       over its divisor 0 is 0
 use mathlib.Core.Path.{◌≡◌, refl, sym, ◌∙◌, subst⁻¹}
 use mathlib.Core.List.{[], ◌∷◌}
 use Prim.Native.Nat.{ℕ}

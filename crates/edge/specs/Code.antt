@@ -1,14 +1,14 @@
 -- What the functions below the public ones ask and answer.
 --
 -- Definitions
---   before_middle, half_with, before_half                    how far two points lie before the middle; the half that they lie in; the same in that half
---   turned, quarter_details                               the details of an edge in one quarter
---   Closed, SamplesClosed                                a direction is between its sides, or on them
+--   before_middle, half_with, before_half                  how far two points lie before the middle; the half that they lie in; the same in that half
+--   turned, quarter_details                                the details of an edge in one quarter
+--   Closed, SamplesClosed                                  a direction is between its sides, or on them
 --   beyond_at, near_at, piece_sum,
 --   numerators_of, numerators_at                           the closed form at the four cuts
 --   held_at, area_at                                       that of the area
---   rounded_by                                            three numerators, rounded
---   AxisRoom, SamplesWithin                              the ranges that they ask for
+--   rounded_by                                             three numerators, rounded
+--   AxisRoom, SamplesWithin                                the ranges that they ask for
 use Rattle.std.specs.Prelude.{ℕ, zero, suc, ℤ, pos, negsuc, neg_ℤ, nat_abs, ◌+ℤ◌, ◌-ℤ◌, ◌*ℤ◌, ◌≤ℤ◌}
 use Rattle.integers.specs.Units.{width_times_extent_limit}
 use Rattle.integers.specs.Within.{Within}

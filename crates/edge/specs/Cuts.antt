@@ -1,13 +1,13 @@
 -- The steps of a walk inside a cell, and where the cell's two middles cut them. For the area, the steps in its rows, and where its left and right side do.
 --
 -- Definitions
---   to_side              from a walk's start to a line
+--   to_side               from a walk's start to a line
 --   all_steps, no_steps   all of a walk's steps, and none
---   strip, strip_of      the steps of one direction between two lines, by the sign of its walk
---   meet, span          the steps of both directions at once, and so inside a cell
---   to_middle            the step at which a direction crosses the middle between its sides
---   cuts_at, cuts        the first step, both middles in their order, the last step
---   rows, side_cuts      the steps in a cell's rows; the first of them, both sides in their order, the last
+--   strip, strip_of       the steps of one direction between two lines, by the sign of its walk
+--   meet, span            the steps of both directions at once, and so inside a cell
+--   to_middle             the step at which a direction crosses the middle between its sides
+--   cuts_at, cuts         the first step, both middles in their order, the last step
+--   rows, side_cuts       the steps in a cell's rows; the first of them, both sides in their order, the last
 use Rattle.std.specs.Prelude.{cond, zero, suc, ℤ, pos, negsuc, neg_ℤ, ◌+ℤ◌, ◌-ℤ◌, ◌*ℤ◌}
 use Rattle.std.specs.Int.Signed.{lt_z}
 use Rattle.integers.specs.MinMax.{min, max}

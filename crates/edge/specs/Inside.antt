@@ -5,7 +5,7 @@
 -- At whole t it would be wrong: a step may join two sides of a cell.
 --
 -- Definitions
---   twice_middle             both ends of a step, added up
+--   twice_middle            both ends of a step, added up
 --   Between                 the middle of step t lies strictly between two sides
 --   SomeStepInside          some step of a walk does so in both directions
 --   Inside                  some step of the edge does

@@ -3,7 +3,7 @@
 -- and only there and at its sides does the distance to the nearer side bend.
 --
 -- Definitions
---   along                           twice the integral of f dg along a walk of n steps
+--   along                               twice the integral of f dg along a walk of n steps
 --   area_on, h_on, v_on, d_on           area, h, v and d of a walk
 --   area_num, h_num, v_num, d_num       of an edge
 use Rattle.std.specs.Prelude.{ℕ, ℤ, pos, neg_ℤ}

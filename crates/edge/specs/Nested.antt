@@ -1,10 +1,10 @@
 -- A cell's quarters, cells in cells, and edges in cells, as the quadtree has them; and both as seen from elsewhere.
 --
 -- Definitions
---   quarter                 quarter (i, j) of a cell
---   Contains                the second cell lies in the first
---   OnRange, OnCell         a coordinate between two sides; both end points of an edge in the closed cell
---   Sheet                   a square that edges lie on
+--   quarter                  quarter (i, j) of a cell
+--   Contains                 the second cell lies in the first
+--   OnRange, OnCell          a coordinate between two sides; both end points of an edge in the closed cell
+--   Sheet                    a square that edges lie on
 --   seen_from, moved         an edge as seen from (a, b), its coordinates less these; a cell moved by (a, b)
 use Rattle.std.specs.Prelude.{ℕ, ℤ, pos, ◌+ℤ◌, ◌-ℤ◌, ◌*ℤ◌, ◌≤ℤ◌}
 use Rattle.integers.specs.Within.{Within}

@@ -1,8 +1,8 @@
 -- Edges that are level, upright or at 45 degrees. Walked in unit steps, x and y are whole numbers after each, so their values need no division.
 --
 -- Definitions
---   Octilinear                         level, upright, or at 45 degrees
---   unit_x, unit_y, unit_steps          the walk in unit steps
+--   Octilinear                  level, upright, or at 45 degrees
+--   unit_x, unit_y, unit_steps  the walk in unit steps
 use Rattle.std.specs.Prelude.{◌≡◌, ℕ, max, pos}
 use Rattle.edge.specs.declared.Edge.{Edge}
 use Rattle.edge.specs.declared.Axis.{Axis}

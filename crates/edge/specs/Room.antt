@@ -2,9 +2,9 @@
 --
 -- Definitions
 --   coordinate_limit, extent_limit, crossing_limit       how far coordinates may lie, and what follows for extents and crossings
---   Measured                                          an edge within these limits
---   Even                                              a width that has a half
---   Room                                              an edge and a cell
+--   Measured                                             an edge within these limits
+--   Even                                                 a width that has a half
+--   Room                                                 an edge and a cell
 use Rattle.std.specs.Prelude.{◌≡◌, ℕ, ◌*◌, ◌^◌, ℤ, pos, ◌+ℤ◌, ◌*ℤ◌, ◌≤ℤ◌}
 use Rattle.integers.specs.Units.{width_times_extent_limit}
 use Rattle.integers.specs.Within.{Within}

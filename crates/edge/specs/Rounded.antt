@@ -3,8 +3,8 @@
 --
 -- Definitions
 --   details             h, v and d, each rounded on its own
---   root_term            the edge's term of the signed area
---   rounded_area         the edge's part of a cell's area, rounded on its own
+--   root_term           the edge's term of the signed area
+--   rounded_area        the edge's part of a cell's area, rounded on its own
 --   Exact               rounding keeps the three details
 --   DetailsWithin       a bound of all three
 use Rattle.std.specs.Prelude.{◌≡◌, ℤ, pos, ◌-ℤ◌, ◌*ℤ◌}

@@ -9,7 +9,7 @@
 -- Definitions
 --   extent, sign               |d|, but 1 for 0; and the sign of d
 --   dx, dy, ax, ay, steps      an edge's differences, their extents, N
---   x_axis, y_axis               an edge's two directions
+--   x_axis, y_axis             an edge's two directions
 --   beyond                     how far past a line the walk is after t steps
 --   past, near                 the same held to a cell's width; and the distance to the nearer side
 use Rattle.std.specs.Prelude.{ℕ, zero, suc, ◌*◌, ℤ, pos, negsuc, ◌+ℤ◌, ◌-ℤ◌, ◌*ℤ◌}

@@ -2,8 +2,8 @@
 --
 -- Definitions
 --   fine_walk, unit_walk      the walk in the definitions' steps, and in unit steps
---   IsWalk                  which of the two `walk_of` answers
---   Decides                 a test's answer
+--   IsWalk                    which of the two `walk_of` answers
+--   Decides                   a test's answer
 use Rattle.std.specs.Prelude.{◌≡◌, Bool, true, false, pos}
 use Rattle.edge.specs.declared.Edge.{Edge}
 use Rattle.edge.specs.declared.Walk.{Walk}

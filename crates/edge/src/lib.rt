@@ -281,7 +281,7 @@ pub fn span_in(w: Walk, c: Cell) -> Span
 }
 
 // Does some part of the edge lie strictly inside the cell? If not, its details are 0 here and in every cell inside this one
-// (`specs/Laws/Zero.antt`). An edge that only touches a corner, or runs along a side, does not.
+// (`proofs/Laws/Zero.antt`). An edge that only touches a corner, or runs along a side, does not.
 pub fn comes_inside(w: Walk, c: Cell) -> bool
     requires { IsWalk w × Room w.edge c }
     ensures { Decides result (Inside w.edge c) }

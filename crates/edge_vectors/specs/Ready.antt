@@ -1,12 +1,12 @@
 -- What the program's tests show of the numbers of a case.
 --
 -- Definitions
---   Shows                   what a test's yes says
---   PointInRange                  a point within the limits
---   HalfWidth               half of a width that leaves room for an extent of 1
---   HasRoom                 the width times the edge's extent in one direction is within its limit
+--   Shows                     what a test's yes says
+--   PointInRange              a point within the limits
+--   HalfWidth                 half of a width that leaves room for an extent of 1
+--   HasRoom                   the width times the edge's extent in one direction is within its limit
 --   edge_at, cell_at          the edge and the cell that the numbers name
---   Ready                   there is room for that edge in that cell
+--   Ready                     there is room for that edge in that cell
 use Rattle.std.specs.Prelude.{◌≡◌, Bool, true, ℤ, pos, ◌+ℤ◌, ◌-ℤ◌, ◌*ℤ◌, ◌≤ℤ◌}
 use Rattle.integers.specs.Units.{width_times_extent_limit}
 use Rattle.integers.specs.Within.{Within}

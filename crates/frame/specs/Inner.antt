@@ -1,14 +1,14 @@
 -- What inner functions answer.
 --
 -- Definitions
---   picture_size level            how many places a level's picture has: none where the level is out of range, and question 7 is asked first
---   draw_number, greys_drawn       drawing a table that building left: the refusal, and what the picture then holds
---   picture_text, table_text       what is printed of it
---   used_entries side, used_table  how many entries building gets: none where the side is out of range, and question 1 is asked first
---   build_number, built_table, edges_built   building: the refusal, the table, the edge count
---   outline_text f table          what is printed of a frame, by what the two calls answer
---   outline_refusal f, frame_output, frame_table_after   the refusal of a frame, what is printed of it, and what the table then holds
---   is_deeper, level_refusal       a level that no tile of this side has, and what is then refused
+--   picture_size level                                  how many places a level's picture has: none where the level is out of range, and question 7 is asked first
+--   draw_number, greys_drawn                            drawing a table that building left: the refusal, and what the picture then holds
+--   picture_text, table_text                            what is printed of it
+--   used_entries side, used_table                       how many entries building gets: none where the side is out of range, and question 1 is asked first
+--   build_number, built_table, edges_built              building: the refusal, the table, the edge count
+--   outline_text f table                                what is printed of a frame, by what the two calls answer
+--   outline_refusal f, frame_output, frame_table_after  the refusal of a frame, what is printed of it, and what the table then holds
+--   is_deeper, level_refusal                            a level that no tile of this side has, and what is then refused
 use Rattle.std.specs.Prelude.{Bool, cond, ◌||◌, List, ◌++◌, ℕ, ◌*◌, ◌^◌, leb, ltb, ℤ, pos, get_or, take, replicate}
 use Rattle.integers.specs.Units.{greatest_side, greatest_depth}
 use Rattle.tile.specs.Questions.{first_no}

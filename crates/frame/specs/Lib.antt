@@ -6,7 +6,7 @@ pub mod Output
 -- ---- what is proved of it
 -- demand 1: each refusal comes under its question alone, and leaves the table as it was
 pub mod Refusals
--- demand 3: the greys that are printed are at most one from those of the exact areas; and that it holds
+-- demand 3: the greys that are printed are at most one from those of the exact areas
 pub mod Printed
 -- ---- what inner functions answer
 pub mod Inner

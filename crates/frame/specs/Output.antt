@@ -1,16 +1,16 @@
 -- What the tile program prints of a text, and what its table holds afterwards. What is printed is said by the text alone.
 --
 -- Definitions
---   outline_questions f           building's questions and then the greys', of a frame, as far as a frame can fail them
---   question11 t                 is the text that of a frame?
---   frame_questions t             those of a text, question 11 before all others
---   frame_refusal t               the number of the first that is answered no; 0 where all are answered yes
+--   outline_questions f            building's questions and then the greys', of a frame, as far as a frame can fail them
+--   question11 t                   is the text that of a frame?
+--   frame_questions t              those of a text, question 11 before all others
+--   frame_refusal t                the number of the first that is answered no; 0 where all are answered yes
 --   frame_table f, frame_greys f   the table of a frame's outline, and the greys of its level
---   drawn_text f                  what is printed where nothing is refused
---   output_text t                 what is printed
---   table_after t table           what the table holds afterwards
---   table_length                  how many entries the program's table has
---   zeros n                      n zero bytes
+--   drawn_text f                   what is printed where nothing is refused
+--   output_text t                  what is printed
+--   table_after t table            what the table holds afterwards
+--   table_length                   how many entries the program's table has
+--   zeros n                        n zero bytes
 --   answer_length, answer_of t     a text in an array that holds the longest answer
 use Rattle.std.specs.Prelude.{List, [], ◌∷◌, ◌++◌, ℕ, ◌+◌, ◌*◌, ◌^◌, length, get_or, replicate, ℤ, pos}
 use Rattle.integers.specs.Units.{greatest_side}

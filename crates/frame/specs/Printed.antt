@@ -4,7 +4,7 @@
 -- Definitions
 --   digits_at level cx cy         where the two digits of a cell's grey stand
 --   printed_grey                  the number that they stand for
---   Printed f out                what is promised of the output of a frame that is not refused
+--   Printed f out                 what is promised of the output of a frame that is not refused
 --   printed_of r, Answered t r    what an answer prints, and what is promised of the answer to a text
 use Rattle.std.specs.Prelude.{◌≡◌, List, ℕ, ◌+◌, ◌*◌, ◌^◌, ◌<◌, length, get_or, take, drop}
 use Rattle.haar.specs.Greys.{grey, OneApart}

@@ -1,13 +1,13 @@
 -- Bytes that stand for numbers: lowercase hexadecimal digits, and decimal ones in a refusal.
 --
 -- Definitions
---   hex_digits                    0 to 9 and a to f, as bytes
---   index_of b l                  where b first stands in l; as many as l has where it is nowhere
+--   hex_digits                     0 to 9 and a to f, as bytes
+--   index_of b l                   where b first stands in l; as many as l has where it is nowhere
 --   digit_char n, digit_value b    the digit of a number below 16; a digit's number, and 16 of any other byte
---   is_digit b                    is it one?
---   hex width n                  the last so many digits of n, the first being worth most
---   hex_value l                   the number that digits stand for
---   twos_complement z             an integer's 64 bits, as a number
+--   is_digit b                     is it one?
+--   hex width n                    the last so many digits of n, the first being worth most
+--   hex_value l                    the number that digits stand for
+--   twos_complement z              an integer's 64 bits, as a number
 use Rattle.std.specs.Prelude.{ℕ, zero, suc, ◌+◌, ◌-◌, ◌*◌, ◌/◌, ◌%◌, ◌^◌, Bool, cond, List, [], ◌∷◌, ◌++◌, length, ℤ, pos, negsuc, ◌==◌, nat_lt, slice_index}
 
 abbrev pub hex_digits : List ℕ

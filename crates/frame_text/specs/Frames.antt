@@ -4,13 +4,13 @@
 -- point four digits of x and four of y."
 --
 -- Definitions
---   Frame                          what a frame says; the outline is its coordinates, x and y in turn, and its counts
---   frame side level points counts    the frame that says these
+--   Frame                            what a frame says; the outline is its coordinates, x and y in turn, and its counts
+--   frame side level points counts   the frame that says these
 --   head_width, head_length          how many digits the side and the level have, each and together
 --   coordinate_width, point_width    and a coordinate and a point
---   contour_text counts points      the contours' lines
---   frame_text f                    the text of a frame
---   Sayable z, Writable f          each number fits in its digits, each contour has a point, and all points are counted
+--   contour_text counts points       the contours' lines
+--   frame_text f                     the text of a frame
+--   Sayable z, Writable f            each number fits in its digits, each contour has a point, and all points are counted
 use Rattle.std.specs.Prelude.{◌≡◌, ℕ, ◌+◌, ◌*◌, ◌^◌, ◌<◌, List, [], ◌∷◌, ◌++◌, map, length, take, drop, ℤ, pos, ◌≤ℤ◌, unsigned_abs}
 use Rattle.integers.specs.ListSum.{All}
 use Rattle.accuracy.specs.Outline.{edge_count}

@@ -1,10 +1,10 @@
 -- What inner functions answer.
 --
 -- Definitions
---   line_length t                 how many bytes stand before the first 0A, or how many there are
---   is_body t                     is the text after a frame's first line so formed?
---   body_coordinates, body_counts, size_of   what such a text says, and how much
---   Readable                     what reading it asks: room for a coordinate for each four bytes, and for a contour for each nine
+--   line_length t                           how many bytes stand before the first 0A, or how many there are
+--   is_body t                               is the text after a frame's first line so formed?
+--   body_coordinates, body_counts, size_of  what such a text says, and how much
+--   Readable                                what reading it asks: room for a coordinate for each four bytes, and for a contour for each nine
 use Rattle.std.specs.Prelude.{◌≡◌, ℕ, suc, ◌*◌, ◌≤◌, Bool, true, cond, ◌&&◌, List, [], ◌∷◌, map, length, ℤ, ◌==◌}
 use Rattle.integers.specs.Units.{text_limit}
 use Rattle.integers.specs.Tests.{every}

@@ -1,11 +1,11 @@
 -- Lines: "each line closed by byte 0A".
 --
 -- Definitions
---   newline              byte 0A
+--   newline                byte 0A
 --   into_first_line b ls   the lines with a byte more at the start of the first
---   lines t              what stands before each 0A and after the one before
---   closes t             nothing stands after the last 0A
---   line_text width ns    the line of numbers of so many digits each
+--   lines t                what stands before each 0A and after the one before
+--   closes t               nothing stands after the last 0A
+--   line_text width ns     the line of numbers of so many digits each
 use Rattle.std.specs.Prelude.{ℕ, Bool, true, cond, List, [], ◌∷◌, ◌++◌, ◌==◌}
 use Rattle.frame_text.specs.Digits.{hex}
 

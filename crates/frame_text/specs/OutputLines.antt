@@ -4,10 +4,10 @@
 -- refusal prints only the line `refused`, one space and two decimal digits."
 --
 -- Definitions
---   refused_word, refusal_text number      the line of a refusal
+--   refused_word, refusal_text number       the line of a refusal
 --   edges_width, root_width, summary_text   the line of edge count and root
---   grey_width, rows_text                  the lines of a picture, one a row
---   summary_length, row_length             how long these lines are
+--   grey_width, rows_text                   the lines of a picture, one a row
+--   summary_length, row_length              how long these lines are
 use Rattle.std.specs.Prelude.{ℕ, zero, suc, ◌+◌, ◌*◌, ◌/◌, ◌%◌, List, [], ◌∷◌, ◌++◌, take, drop, ℤ}
 use Rattle.frame_text.specs.Digits.{digit_char, hex, twos_complement}
 use Rattle.frame_text.specs.Lines.{newline, line_text}

@@ -2,12 +2,12 @@
 -- within the limit, and only there, and that what is read is that frame.
 --
 -- Definitions
---   is_head, is_contour            is it a frame's first line, or a contour's?
---   are_frame_lines ls                  are the lines so formed?
+--   is_head, is_contour           is it a frame's first line, or a contour's?
+--   are_frame_lines ls            are the lines so formed?
 --   is_frame t                    is the text so formed, and no longer than the limit?
 --   coordinates l, point_count l  the numbers of a contour's line, and how many points it has
 --   all_coordinates ls            the numbers of several
---   first_line, other_lines        of a list of lines
+--   first_line, other_lines       of a list of lines
 --   frame_of t                    what a text says
 use Rattle.std.specs.Prelude.{ℕ, ◌/◌, ◌%◌, Bool, false, ◌&&◌, List, [], ◌∷◌, ◌++◌, map, length, take, drop, ℤ, pos, ◌==◌, nat_le, nat_lt}
 use Rattle.integers.specs.Units.{text_limit}

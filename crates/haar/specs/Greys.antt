@@ -10,7 +10,7 @@
 --   SameGrey f most n             n is at most the full figure `most`, and has the grey of the figure f
 -- Checks
 --   half_pixel, half_pixel_below half a pixel's ink has the grey 128, either way round
---   full_pixel_below             a pixel's ink below zero has the full grey
+--   full_pixel_below              a pixel's ink below zero has the full grey
 use Rattle.std.specs.Prelude.{◌≡◌, ℕ, ◌+◌, ◌*◌, ◌<◌, ◌≤◌, ℤ, pos, nat_abs, ◌*ℤ◌}
 use Rattle.integers.specs.Units.{units_per_pixel, full_grey}
 use Rattle.integers.specs.Magnitude.{abs}

@@ -1,9 +1,9 @@
 -- All levels of a tile, one picture after the other, the smallest first.
 --
 -- Definitions
---   places levels                 how many cells so many levels have: 1 + 4 + 16 and so on
---   pyramid_in g entries levels   the pictures of so many levels, from level 0 on
---   DrawablePyramid entries depth room        a table from which the levels down to a depth can be drawn, with as many places as they have cells
+--   places levels                       how many cells so many levels have: 1 + 4 + 16 and so on
+--   pyramid_in g entries levels         the pictures of so many levels, from level 0 on
+--   DrawablePyramid entries depth room  a table from which the levels down to a depth can be drawn, with as many places as they have cells
 use Rattle.std.specs.Prelude.{◌≡◌, List, [], ◌++◌, ℕ, zero, suc, ◌+◌, ◌^◌, ℤ}
 use Rattle.haar.specs.Cells.{children}
 use Rattle.haar.specs.Plane.{dimensions, picture_in}

@@ -2,5 +2,5 @@
 
 -- what is proved of the definitions of specs/
 pub mod Theorems
--- What the functions' proofs share.
+-- what the functions' proofs share
 pub mod Correction

@@ -1,7 +1,7 @@
 -- Linear arithmetic on ℤ: `lin≤`, `lin<`, `lin≡`, `lin⊥`, which read goal and facts themselves.
 --
 -- Main results (the laws among them are in proofs/Theorems/Linear.antt)
---   lin≤ (x ∷ y ∷ []) (le h & lt k & eq e) (search linear depth 40) tt             a ≤ b, from facts
+--   lin≤ (x ∷ y ∷ []) (le h & lt k & eq e) (search linear depth 40) tt            a ≤ b, from facts
 --   lin< ρ FACTS (search linear depth 40) tt                                      a < b
 --   lin≡ ρ FACTS (search linear depth 40) (tt, tt)                                a = b, each side at most the other
 --   lin⊥ ρ FACTS (search linear depth 40) tt                                      anything, from facts that cannot all hold

@@ -4,17 +4,17 @@
 --   all_of, all_map, all_append, all_front, all_back, all_image, all_take, all_drop, all_entry        of `All P l`, that every element of l has the property P
 --   all_get_d, get_d_all, get_d_each     past its end an entry of a list counts as the default: what holds of that too holds of every entry
 --   total_cong, total-add, total_scale, total-neg, total_append, total_const     as of any finite sum
---   total_within, total_bounded       terms bounded each by its own bound are bounded by the bounds' sum; each by b, by as many times b
---   total_perm                        the order of the list does not matter
---   total-map                         the sum over the images of a list's elements
---   total-entries                     the sum over the numbers of a list's entries
---   total-range                       sums over a list, added up, are the sum over the list of what is added up
+--   total_within, total_bounded          terms bounded each by its own bound are bounded by the bounds' sum; each by b, by as many times b
+--   total_perm                           the order of the list does not matter
+--   total-map                            the sum over the images of a list's elements
+--   total-entries                        the sum over the numbers of a list's entries
+--   total-range                          sums over a list, added up, are the sum over the list of what is added up
 --   tally, tally-total, tally_const,
---   tally_perm                        a count over a list: a sum of natural numbers
---   length_perm                       in another order a list is as long
---   joined f l                        the lists that f makes of l's elements, one after the other
+--   tally_perm                           a count over a list: a sum of natural numbers
+--   length_perm                          in another order a list is as long
+--   joined f l                           the lists that f makes of l's elements, one after the other
 --   total-joined, all_joined,
---   length-joined                     a sum over it, a property of all its elements, its length
+--   length-joined                        a sum over it, a property of all its elements, its length
 use Rattle.std.specs.Prelude.{ℕ, ◌+◌, ℤ}
 use mathlib.Core.List.{List, [], ◌∷◌, ◌++◌}
 use Rattle.std.proofs.Math.IntN.{pos, ◌+ℤ◌}

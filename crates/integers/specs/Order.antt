@@ -8,7 +8,7 @@
 --   ≤ℤ-add, ≤ℤ-neg, ≤ℤ_scale                with sums, negation and multiples
 --   ≤ℤ-mul, ≤ℤ-mul-nonneg, ≤ℤ-square        products: what `Linear` is handed as facts, since it takes each product for an unknown
 --   pos-≤ℤ, ≤_of_pos, nonneg, positive      with the order of ℕ
---   le_z-true .. lt_z-false                   what a test that computes says of its two numbers
+--   le_z-true .. lt_z-false                 what a test that computes says of its two numbers
 -- Of < nothing more is needed: it is a + 1 ≤ b to `Linear`. `lib.Signed` has `<ℤ-≤ℤ_trans` and `<ℤ_irrefl`.
 use Rattle.std.specs.Prelude.{◌≡◌, ℕ, ℤ, pos, ◌+ℤ◌}
 

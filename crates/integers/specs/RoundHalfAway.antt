@@ -8,7 +8,7 @@
 --   round_half_away_of_bounds           no other number has such an error; with ', of a divisor that is an integer, as code has it
 --   round_half_away-mono                monotone in n
 --   round_half_away_within              at most b in magnitude where n is at most d b
---   error_neg                         an error is the same on both sides of zero
+--   error_neg                           an error is the same on both sides of zero
 -- `NearestAway` has that it is nearest, halves away from zero, and that no other number is.
 use Rattle.std.specs.Prelude.{ℤ, pos, ◌-ℤ◌, ◌*ℤ◌, ◌≤ℤ◌, ◌<ℤ◌}
 

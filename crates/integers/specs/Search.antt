@@ -2,7 +2,7 @@
 -- `Tests`, whether all pass, and `looked_at test l`. Places count from 0.
 --
 -- Definitions
---   looked_at test l                        how many elements the search looks at: one more than the place of the first that fails, or all
+--   looked_at test l                       how many elements the search looks at: one more than the place of the first that fails, or all
 --   LeastFailing P d l i                   i is the least place of l whose element does not have the property P
 -- Main results (the laws among them are in proofs/Theorems/Search.antt)
 --   least_or_all                           the count is one more than the least place whose element fails, or all where there is none

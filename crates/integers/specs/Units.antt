@@ -1,17 +1,17 @@
 -- The numbers that 01 and 02 fix, each with its reason, and what is worked out from them. This is their only home: a definition, a bound or a contract
--- names them from here, so that a request which moves one moves one definition and the checks below it.
+-- names them from here, so that a request which moves one moves one definition and the checks in proofs/Theorems/Units.antt.
 --
 -- Definitions
---   steps_per_pixel; units_per_half_square_step, units_per_pixel            length and area
---   greatest_depth, greatest_side, greatest_coordinate                 the tile
+--   steps_per_pixel; units_per_half_square_step, units_per_pixel          length and area
+--   greatest_depth, greatest_side, greatest_coordinate                    the tile
 --   greatest_sheet_side, greatest_sheet_coordinate,
---   greatest_tile_depth, greatest_tile_side                             the sheet, and a tile of it
---   fewest_points, most_points, most_edges                             the outline
---   width_times_extent_limit, detail_limit, numerator_limit              an edge's arithmetic
+--   greatest_tile_depth, greatest_tile_side                               the sheet, and a tile of it
+--   fewest_points, most_points, most_edges                                the outline
+--   width_times_extent_limit, detail_limit, numerator_limit               an edge's arithmetic
 --   entry_limit, built_entry_limit, figure_limit, full_grey, text_limit   the table, what is drawn of it, the program
 --   parts_per_step, factor_limit, offset_limit, movable_limit,
---   placed_limit                                                     placements
---   most_splits, most_chords                                          curves
+--   placed_limit                                                          placements
+--   most_splits, most_chords                                              curves
 use Rattle.std.specs.Prelude.{ℕ, ◌+◌, ◌*◌, ◌^◌}
 
 -- ---- length: "A step is 1/256 pixel." Coordinates are whole steps.
@@ -109,7 +109,7 @@ factor_limit = 2
 abbrev pub offset_limit : ℕ
 offset_limit = 16384
 
--- "Points to be moved lie from −32,768 to 32,767 before it": from −movableLimit to movable_limit − 1, the whole numbers of 16 bits
+-- "Points to be moved lie from −32,768 to 32,767 before it": from −movable_limit to movable_limit − 1, the whole numbers of 16 bits
 abbrev pub movable_limit : ℕ
 movable_limit = 32768
 

@@ -5,7 +5,7 @@
 --   within_le, within_is, within_self, within_zero                   a larger bound, an equal one, a number's own, any bound of 0
 --   within_sign                                                      of a number times 1 or −1
 --   within_of_abs, abs_of_within, scaled-abs_of_within               the same as |x| ≤ b, or k |x| ≤ b
---   within_of_nat_abs, nat_abs_of_within                               the same as |x| ≤ b, of natural numbers
+--   within_of_nat_abs, nat_abs_of_within                             the same as |x| ≤ b, of natural numbers
 --   within_abs                                                       of two numbers within b of each other, the magnitudes are so too
 --   zero_of_within                                                   within 0 is 0
 --   bounds                                                           as facts for `lin≤`

@@ -2,17 +2,17 @@
 -- whole number and a power of two, or an infinity, or not a number. No operation on floats is in these definitions.
 --
 -- Definitions
---   Value x k c               x is finite, and it is k / c; a zero of either sign is 0 / c
---   parts_of x                how many parts x is, cut toward zero
---   is_multiple limit x       is x a multiple of 1/65,536 from −limit to limit?
---   Multiple limit x          it is one; `Multiples` proves that the test says so
---   Inside limit x            x is finite, and from −limit to limit
---   InParts x w               the float w is x × 65,536, exactly
---   nearest k                 k parts to the nearest whole number, halves towards the larger
---   part_bits                 a part is 1/2^16
---   signed s n                a magnitude with a sign; true is minus
---   per_step, one, nought     65,536, 1 and 0 as floats, which the code writes
---   kept_digits, cast_limit   what a float holds, and what a cast takes
+--   Value x k c                 x is finite, and it is k / c; a zero of either sign is 0 / c
+--   parts_of x                  how many parts x is, cut toward zero
+--   is_multiple limit x         is x a multiple of 1/65,536 from −limit to limit?
+--   Multiple limit x            it is one; `Multiples` proves that the test says so
+--   Inside limit x              x is finite, and from −limit to limit
+--   InParts x w                 the float w is x × 65,536, exactly
+--   nearest k                   k parts to the nearest whole number, halves towards the larger
+--   part_bits                   a part is 1/2^16
+--   signed s n                  a magnitude with a sign; true is minus
+--   per_step, one, nought       65,536, 1 and 0 as floats, which the code writes
+--   kept_digits, cast_limit     what a float holds, and what a cast takes
 use Rattle.std.specs.Prelude.{◌≡◌, ℕ, ◌*◌, ◌/◌, ◌%◌, ◌^◌, ◌≤◌, Bool, true, false, ◌&&◌, ℤ, pos, ◌*ℤ◌, neg_ℤ, ◌==◌, nat_le, unsigned_abs, Float}
 use Rattle.std.specs.Float.{nan, inf, fin}
 use Rattle.std.specs.Float.Ieee.{up, down}

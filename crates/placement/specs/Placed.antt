@@ -2,13 +2,13 @@
 -- one number, or a turn by six numbers." In whole numbers of parts; no operation on floats is in these definitions.
 --
 -- Definitions
---   parts_at a b c x y                 a × x + b × y + c, in parts
---   across_of p x y, down_of p x y     where a placement takes the point (x, y)
---   placed p points                    the coordinates of an outline as placed
---   is_moving p                        does the placement move points?
---   row_usable a b c, floats_usable p  is every float a multiple of 1/65,536 in its range: of a turn's row, of a placement?
---   is_movable z                       may a coordinate be moved?
---   placeable p points                 question 12
+--   parts_at a b c x y                  a × x + b × y + c, in parts
+--   across_of p x y, down_of p x y      where a placement takes the point (x, y)
+--   placed p points                     the coordinates of an outline as placed
+--   is_moving p                         does the placement move points?
+--   row_usable a b c, floats_usable p   is every float a multiple of 1/65,536 in its range: of a turn's row, of a placement?
+--   is_movable z                        may a coordinate be moved?
+--   placeable p points                  question 12
 use Rattle.std.specs.Prelude.{◌-◌, Bool, true, false, not, ◌&&◌, ◌||◌, List, [], ◌∷◌, ℤ, pos, ◌+ℤ◌, ◌*ℤ◌, neg_ℤ, Float}
 use Rattle.integers.specs.Units.{parts_per_step, factor_limit, offset_limit, movable_limit}
 use Rattle.integers.specs.Tests.{every, between}

@@ -2,9 +2,9 @@
 -- missed.
 --
 -- Main results
---   Order, as_numbered_lem                                such an order: all quarters together, whatever they add; that of their numbers
+--   Order, as_numbered_lem                            such an order: all quarters together, whatever they add; that of their numbers
 --   OwnAdded, own_added                               the table when the cell has added its own details
---   first_quarters, QuarterLoop                        what the first q quarters add; the table when they have had the edge too
+--   first_quarters, QuarterLoop                       what the first q quarters add; the table when they have had the edge too
 --   quarters_start, quarters-step, quarters-skip      before the first quarter; to the next, when one had the edge or was passed over
 --   own_spare, quarters_asks                          the room that is left for the quarters; what the call for one of them asks for
 --   own_length, quarters-length                       the table is as long as it was

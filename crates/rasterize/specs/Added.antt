@@ -1,7 +1,7 @@
 -- A table with something added to each of its entries.
 --
 -- Definitions
---   added t g                    the entries of t, each with g of its index added
+--   added t g                     the entries of t, each with g of its index added
 --   at_root z i                   z at the root, and nothing elsewhere
 --   entry_of depth t i            entry i of the table of coefficients t, of a tile of side 2^depth
 use Rattle.std.specs.Prelude.{List, ℕ, zero, suc, length, get_or, ℤ, pos, ◌+ℤ◌}

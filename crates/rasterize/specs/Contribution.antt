@@ -1,8 +1,8 @@
 -- What an edge adds to each entry of a table in a cell and in the cells below it.
 --
 -- Definitions
---   first_detail c                where the details of a cell begin in the table
---   own_part w first i            what details w, which stand from `first` on, add to entry i
+--   first_detail c               where the details of a cell begin in the table
+--   own_part w first i           what details w, which stand from `first` on, add to entry i
 --   contribution e left c i      what an edge adds to entry i in cell c and below it, `left` levels in all
 use Rattle.std.specs.Prelude.{ℕ, zero, suc, ◌-◌, ℤ, pos, ◌+ℤ◌}
 use Rattle.integers.specs.RangeSum.{Σ<}

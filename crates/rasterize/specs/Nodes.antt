@@ -2,7 +2,7 @@
 -- given apart, so that the root's square may be any.
 --
 -- Definitions
---   quarters                     a cell has four
+--   quarters                      a cell has four
 --   half_width s                  half of a square's width
 --   quarter_node c q              quarter q of a cell: 0 and 1 are the upper two, 0 and 2 those on the left
 --   node_at depth j x y           cell (x, y) of level j of the tile of side 2^depth

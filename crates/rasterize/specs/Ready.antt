@@ -1,16 +1,16 @@
 -- What the functions ask of their callers, and what the way down promises.
 --
 -- Definitions
---   sum_limit                     how large an entry may become
+--   sum_limit                    how large an entry may become
 --   visits left                  how many cells there are in `left` levels, beginning with one cell: an edge adds to an entry at most so often
 --   Spare t n                    there is room for n more details in every entry
 --   SmallDetails w               three details that an edge may have
---   OnSheet e left s              an edge and a square on one sheet, the square wide enough for `left` levels
+--   OnSheet e left s             an edge and a square on one sheet, the square wide enough for `left` levels
 --   Ready t e left c             a table, an edge and a cell, with `left` levels from the cell's on
 --   ReadyIn t e depth c          a table, an edge and a cell of the tile that the edge lies on
 --   Splits c                     a cell that has quarters
 --   Fits t depth n               a table of a tile of side 2^depth, with room for n more edges
---   square_of w                   a square at the origin
+--   square_of w                  a square at the origin
 --   Descent e s all t c u        table t has become u: of what the edge adds in cell s and below it, `all` levels, what it adds in cell c and below it is
 --                                still missing
 use Rattle.std.specs.Prelude.{◌≡◌, List, ℕ, zero, suc, ◌+◌, ◌*◌, ◌-◌, ◌^◌, ◌<◌, ◌≤◌, length, get_or, ℤ, pos, ◌*ℤ◌, ◌≤ℤ◌}

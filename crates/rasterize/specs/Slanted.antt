@@ -4,10 +4,10 @@
 --
 -- Definitions
 --   slope, piece, spot                           by their numbers
---   node_on p s                                   the cell at place p of the quadtree, with a square
+--   node_on p s                                  the cell at place p of the quadtree, with a square
 --   Slants w s l k                               slope l and piece k are those of the slanted walk w in square s
---   quarter_on_way l q                             the quarter that the walk is in: q % 2 is 0 before the middle of x is crossed and 1 after it, q / 2 likewise of y
---   quarter_spot p q                              the place of quarter q of a cell
+--   quarter_on_way l q                           the quarter that the walk is in: q % 2 is 0 before the middle of x is crossed and 1 after it, q / 2 likewise of y
+--   quarter_spot p q                             the place of quarter q of a cell
 --   SlantedReady t l p k left                    such a walk and such a square that the recursion is ready for, with `left` levels from the cell's on
 --   SlantedAdds before after l p k left          what the walk's edge adds there has been added, for every such walk: `SlantedReady` says that there is one
 use Rattle.std.specs.Prelude.{◌≡◌, List, ℕ, suc, ◌+◌, ◌*◌, ◌/◌, ◌%◌, ℤ, ◌<ℤ◌}

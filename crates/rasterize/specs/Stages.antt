@@ -2,9 +2,9 @@
 -- before its middles, is in.
 --
 -- Definitions
---   stage_at e c                  cell c, for an edge
---   quarter_stage p               the quarter that the edge lies in
---   stage_node p                  the cell, with its square
+--   stage_at e c                 cell c, for an edge
+--   quarter_stage p              the quarter that the edge lies in
+--   stage_node p                 the cell, with its square
 --   StageRoom p                  its numbers are small
 --   StageOf e depth p c          stage p is that of cell c of the tile, and the edge lies on the cell
 use Rattle.std.specs.Prelude.{◌≡◌, ℕ, suc, ◌+◌, ◌*◌, ◌/◌, ◌^◌, ◌<◌, ◌≤◌, pos, nat_abs, ◌*ℤ◌}

@@ -6,7 +6,7 @@
 --   root_part view depth e        its part of the root, of an edge as the tile has it
 --   part_table view depth e       what the edge adds to each entry
 --   view_table view depth es      the sums over the edges
---   InView view depth e          what is asked of an edge: as the tile has it, it lies on one sheet with the tile, and what it adds is small
+--   InView view depth e           what is asked of an edge: as the tile has it, it lies on one sheet with the tile, and what it adds is small
 --   Seen, seen_table              the same of an edge that is as the tile has it, and what it adds
 --   turned_by sign e              the edge, or the way back along it where the sign is negative
 use Rattle.std.specs.Prelude.{List, ℕ, ℤ, pos, negsuc}

@@ -6,7 +6,7 @@
 --
 -- Definitions
 --   exact_area_on_sheet             01's exact area of a cell of the tile, at its place on the sheet, of the outline as it lies there: the numerator
---   FaithfulOnSheet              what is promised of the table that building on a sheet left
+--   FaithfulOnSheet                 what is promised of the table that building on a sheet left
 use Rattle.std.specs.Prelude.{◌≡◌, List, ℕ, ℤ}
 use Rattle.integers.specs.ListSum.{All}
 use Rattle.integers.specs.Fraction.{numer}

@@ -3,9 +3,9 @@
 -- Definitions
 --   tile_at sheet side column row the tile at that place
 --   seen_from_tile place es        the edges as they are seen from the tile's corner
---   tile_entries place es         the table of the tile: its entries, in order
+--   tile_entries place es          the table of the tile: its entries, in order
 --   sheet_refusal, sheet_result,
---   sheet_table                   the number; the number and the edge count; the table afterwards
+--   sheet_table                    the number; the number and the edge count; the table afterwards
 use Rattle.std.specs.Prelude.{List, ℕ, ℤ}
 use Rattle.edge.specs.declared.Edge.{Edge}
 use Rattle.placement.specs.declared.Placement.{Placement}

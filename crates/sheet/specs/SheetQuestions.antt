@@ -3,10 +3,10 @@
 --
 -- Definitions
 --   sheet_sides, tile_sides        the sides of a sheet, and of its tiles
---   question14 sheet side        are the sides those of a sheet and of a tile of it?
---   question15 place             is the tile's place on the sheet?
---   place_questions               what is asked about the place and the table: 14, 15, 2
---   sheet_questions               what building on a sheet asks: 14, 15, 2, 4, 5, 3, 12, 6
+--   question14 sheet side          are the sides those of a sheet and of a tile of it?
+--   question15 place               is the tile's place on the sheet?
+--   place_questions                what is asked about the place and the table: 14, 15, 2
+--   sheet_questions                what building on a sheet asks: 14, 15, 2, 4, 5, 3, 12, 6
 use Rattle.std.specs.Prelude.{◌&&◌, List, [], ◌∷◌, ℕ, ◌/◌, leb, ltb, ℤ}
 use Rattle.integers.specs.Tests.{one_of}
 use Rattle.placement.specs.declared.Placement.{Placement}

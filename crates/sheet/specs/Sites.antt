@@ -2,14 +2,14 @@
 -- is said of one kind is said of both, and a tile alone is an instance by computing: its definitions are those of `tile`.
 --
 -- Definitions
---   tile_side, reach              the tile's side, which question 2 and the pictures read; the side that question 6 reads
---   SiteYes                      the questions about the site are answered yes: 1, or 14 and 15
---   site_questions                these, and question 2
+--   tile_side, reach               the tile's side, which question 2 and the pictures read; the side that question 6 reads
+--   SiteYes                        the questions about the site are answered yes: 1, or 14 and 15
+--   site_questions                 these, and question 2
 --   site_outline_questions         and those about an outline, beside so many edges that are in already: 4, 5, 3, 12, 6
 --   view_at, seen_at               how the tile has an outline's edges
 --   root_rule, root_at             the root: how it is had of the edges as the tile has them; and of an outline's
 --   twice_limit_at                 twice the limit of a figure's miss
---   entries_at                    the table of an outline's edges
+--   entries_at                     the table of an outline's edges
 --   site_result, site_table        building at a site, without a placement: what it answers, and the table afterwards
 use Rattle.std.specs.Prelude.{List, ◌++◌, ℕ, ℤ}
 use Rattle.edge.specs.declared.Edge.{Edge}

@@ -1,7 +1,7 @@
 -- "For outlines of level, upright and 45 degree edges the tiles' roots add up to the outline's area": over all tiles of the sheet.
 --
 -- Definitions
---   built_root                    the root that building a tile leaves: entry 0
+--   built_root                   the root that building a tile leaves: entry 0
 -- Main results (the laws among them are in proofs/Theorems/TilesAddUp.antt)
 --   accepted_everywhere          an outline that is accepted at one place of a sheet is accepted at every other, over a table as long
 --   roots_add_up                 the sum over all tiles, whatever the tables held before

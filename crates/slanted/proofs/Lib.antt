@@ -1,4 +1,4 @@
--- What the functions' proofs share.
+-- What is proved, and what the functions' proofs share.
 
 -- laws, as other crates and the proofs of the code know them
 pub mod Laws

@@ -2,7 +2,7 @@
 -- known of the cell tells it of a quarter, by comparisons and sums.
 --
 -- Definitions
---   half_on                    which half of the cell a direction is in, before and after
+--   half_on                   which half of the cell a direction is in, before and after
 --   since, until              the first step and the last
 --   shifted                   the step at which the middle of that half is crossed
 --   IsPart k p r              r is part p of k: p % 2 tells the half of x, p / 2 that of y

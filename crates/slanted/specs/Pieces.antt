@@ -1,12 +1,12 @@
 -- A slanted walk in a cell: both of its directions move at every step. What it adds is told by six numbers, all in steps, and by what its cells share.
 --
 -- Definitions
---   Moving                  a direction that does not stand still
+--   Moving                    a direction that does not stand still
 --   slope_of, piece_of        a walk, and a walk in a cell whose width is half + half
---   signed_by                three numbers, with the signs of a slope
---   rounded_details          h, v and d, each rounded on its own
---   Sound                   what `details_of` asks
---   Ranged                  what `part_of` asks, besides that there are halves
+--   signed_by                 three numbers, with the signs of a slope
+--   rounded_details           h, v and d, each rounded on its own
+--   Sound                     what `details_of` asks
+--   Ranged                    what `part_of` asks, besides that there are halves
 use Rattle.std.specs.Prelude.{◌≡◌, ℤ, pos, negsuc, neg_ℤ, nat_abs, ◌*ℤ◌, ◌≤ℤ◌, ◌<ℤ◌}
 use Rattle.integers.specs.Units.{width_times_extent_limit}
 use Rattle.integers.specs.Within.{Within}

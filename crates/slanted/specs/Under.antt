@@ -2,13 +2,13 @@
 -- it is p − |t − m| from the nearer side.
 --
 -- Definitions
---   signed_square          z², with the sign of z
---   under                 twice the sum under the tent
---   turned                the same with the sign turned from some step on
+--   signed_square           z², with the sign of z
+--   under                   twice the sum under the tent
+--   turned                  the same with the sign turned from some step on
 --   under_limit, sum_limit  how large it is, and what is rounded at most
---   far_limit              how far off a crossing may be
---   Arch                  where it is asked for
---   Turns                 the sign of a number, 1 for 0
+--   far_limit               how far off a crossing may be
+--   Arch                    where it is asked for
+--   Turns                   the sign of a number, 1 for 0
 use Rattle.std.specs.Prelude.{◌≡◌, ℕ, ◌+◌, ◌*◌, ◌^◌, ℤ, pos, negsuc, ◌-ℤ◌, ◌*ℤ◌, ◌≤ℤ◌, ◌<ℤ◌}
 use Rattle.integers.specs.Units.{width_times_extent_limit}
 use Rattle.integers.specs.Within.{Within}

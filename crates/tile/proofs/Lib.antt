@@ -1,4 +1,4 @@
--- What the functions' proofs share.
+-- What is proved, and what the functions' proofs share.
 
 -- what is proved of the definitions of specs/
 pub mod Theorems

@@ -28,7 +28,7 @@
 --   either_way_placed_table,
 --   either_way_placed_greys      the same with placements; to be accepted, the other must pass question 12 too
 -- Instance
---   letter_a-back                 01's letter A walked back from its first point
+--   letter_a-back                01's letter A walked back from its first point
 use Rattle.std.specs.Prelude.{ℤ, neg_ℤ}
 use mathlib.Core.List.{List, map}
 

@@ -8,7 +8,7 @@
 --
 -- Definitions
 --   in_range z                             question 9 of one entry
---   entries_looked_at table                  how many entries the search looks at (`looked_at` of `integers`, in Search)
+--   entries_looked_at table                how many entries the search looks at (`looked_at` of `integers`, in Search)
 --   LeastOut table i                       i is the least place out of range (`LeastFailing`, there too)
 -- Main results (the laws among them are in proofs/Theorems/EntrySearch.antt)
 --   least_or_all                           02's sentence: the count is one more than the least place out of range, or all where there is none

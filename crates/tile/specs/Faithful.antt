@@ -9,13 +9,13 @@
 -- An exact area is the fraction `exact_area_num / denominator`: an equation or a bound of it is multiplied by the denominator.
 --
 -- Definitions
---   figure_num                              4^level times the exact area of a cell, over `denominator`
---   WithinQuarterSquareSteps               two areas differ by at most a quarter of a square step, so many times
---   CellDrawn                              what is promised of a cell
---   Drawn                                  and of a level of the tile
---   FaithfulTo                             and of the table that a call left, by what the call answered
---   DrawnOutline, FaithfulOutline          the same of 01's outline, which is points and counts
---   Faithful, FaithfulPlaced               and of what building leaves, without and with a placement
+--   figure_num                                4^level times the exact area of a cell, over `denominator`
+--   WithinQuarterSquareSteps                  two areas differ by at most a quarter of a square step, so many times
+--   CellDrawn                                 what is promised of a cell
+--   Drawn                                     and of a level of the tile
+--   FaithfulTo                                and of the table that a call left, by what the call answered
+--   DrawnOutline, FaithfulOutline             the same of 01's outline, which is points and counts
+--   Faithful, FaithfulPlaced                  and of what building leaves, without and with a placement
 --   exact_figure_num, exact_denominator       the exact fraction of 01's outline
 use Rattle.std.specs.Prelude.{◌≡◌, List, ℕ, ◌*◌, ◌^◌, ◌<◌, ◌≤◌, length, get_or, ℤ, pos, ◌-ℤ◌, ◌*ℤ◌, ◌≤ℤ◌}
 use Rattle.integers.specs.Units.{units_per_half_square_step}

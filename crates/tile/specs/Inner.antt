@@ -2,7 +2,7 @@
 --
 -- Definitions
 --   capped_edges counts                     the counts' sum, or one more than the most edges where it is greater. Question 5 asks only whether it passes the
---                                          most, so `edges_of` adds up no further, and no sum overflows.
+--                                           most, so `edges_of` adds up no further, and no sum overflows.
 --   level_questions side level table        the questions that every call asks first that draws one level, which `level_refusal` answers
 use Rattle.std.specs.Prelude.{cond, List, [], ◌∷◌, ℕ, suc, leb, ℤ}
 use Rattle.integers.specs.Units.{most_edges}

@@ -1,17 +1,17 @@
 -- 01's letters to try: "Those with a letter form a single table, proved by one theorem on the definitions".
 --
 -- Definitions
---   View                         a picture of a level
---   Slant                        an edge's exact h, and what it is rounded to
---   Letter                       an outline of one contour, and what the papers give of it: its table, some pictures of figures and of greys, a slanted edge's h
---   counts l                     its one count: a contour through all of its points
---   FiguresAre, GreysAre         what is drawn of the letter's table at a level is this picture
---   SlantIs                      the edge's h in the tile is this
---   Holds l                      building and drawing it gives what the papers give
+--   View                           a picture of a level
+--   Slant                          an edge's exact h, and what it is rounded to
+--   Letter                         an outline of one contour, and what the papers give of it: its table, some pictures of figures and of greys, a slanted edge's h
+--   counts l                       its one count: a contour through all of its points
+--   FiguresAre, GreysAre           what is drawn of the letter's table at a level is this picture
+--   SlantIs                        the edge's h in the tile is this
+--   Holds l                        building and drawing it gives what the papers give
 --   letter_a .. letter_h, letters  the eight of them
 --
 -- Main results (the laws among them are in proofs/Theorems/Letters.antt)
---   letters_hold                 for each of the eight
+--   letters_hold                   for each of the eight
 use Rattle.std.specs.Prelude.{◌≡◌, List, [], ◌∷◌, ℕ, suc, ◌*◌, ◌/◌, ◌^◌, length, drop, ℤ, pos, neg_ℤ}
 use Rattle.integers.specs.ListSum.{All}
 use Rattle.edge.specs.declared.Edge.{Edge}

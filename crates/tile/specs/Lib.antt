@@ -19,7 +19,7 @@ pub mod TableEntries
 pub mod DrawnFigures
 -- all levels in one call
 pub mod AllLevels
--- ---- demand 3: the claim from the outline to what is drawn of it, and that it holds
+-- ---- demand 3: the claim from the outline to what is drawn of it
 pub mod Faithful
 -- ---- 01's letters
 pub mod Letters

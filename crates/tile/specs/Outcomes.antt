@@ -2,19 +2,19 @@
 -- 01's numbers begin at 1. "A refusal carries its number and the edge count or figure 0; tables and pictures keep what they held."
 --
 -- Definitions
---   if_done number a b                        a where the number is 0, and else b
---   edges_of points counts                    the edges of an outline
---   table_of side points counts               the table of an outline: its entries, in order
---   edges_table side es                       the same of a list of edges, whatever kind of outline they are of
---   table_with side root es                   and with another root than the signed area
+--   if_done number a b                          a where the number is 0, and else b
+--   edges_of points counts                      the edges of an outline
+--   table_of side points counts                 the table of an outline: its entries, in order
+--   edges_table side es                         the same of a list of edges, whatever kind of outline they are of
+--   table_with side root es                     and with another root than the signed area
 --   build_refusal, build_result, build_table    building: the number; the number and the edge count; the table afterwards
 --   placed_refusal, placed_result, placed_table building with a placement: the same, and the table is that of the outline as placed
---   draw_refusal                              pictures of figures or of greys: the number
---   figures_picture, greys_picture             the picture afterwards
---   picture_index                             where a cell stands in a picture
---   cell_refusal, cell_result                  one cell: the number; the number and the figure
---   pyramid_refusal, pyramid_pictures          all levels of greys: the number; the buffer afterwards
---   level_part level pictures                 a level's part of the buffer
+--   draw_refusal                                pictures of figures or of greys: the number
+--   figures_picture, greys_picture              the picture afterwards
+--   picture_index                               where a cell stands in a picture
+--   cell_refusal, cell_result                   one cell: the number; the number and the figure
+--   pyramid_refusal, pyramid_pictures           all levels of greys: the number; the buffer afterwards
+--   level_part level pictures                   a level's part of the buffer
 use Rattle.std.specs.Prelude.{List, ℕ, zero, suc, ◌+◌, ◌*◌, ◌^◌, length, take, drop, ℤ, pos}
 use Rattle.edge.specs.declared.Edge.{Edge}
 use Rattle.haar.specs.Entries.{entries}

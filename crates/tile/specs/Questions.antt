@@ -1,17 +1,17 @@
 -- The questions. Each call asks its own in the papers' order, and "The first "no" decides."
 --
 -- Definitions
---   depth_of side                           the depth of a tile
---   Question, Yes q, No q                  a number, and the answer: true for yes
---   DecidedBy before q                     the questions before q are answered yes, and q is answered no
---   question1 .. question10                01's ten questions
---   question12                             02's question about a placement
---   question5_beside                        question 5 beside edges that are in already
---   first_no qs                             the number of the first question whose answer is no; 0 where all are yes
+--   depth_of side                            the depth of a tile
+--   Question, Yes q, No q                    a number, and the answer: true for yes
+--   DecidedBy before q                       the questions before q are answered yes, and q is answered no
+--   question1 .. question10                  01's ten questions
+--   question12                               02's question about a placement
+--   question5_beside                         question 5 beside edges that are in already
+--   first_no qs                              the number of the first question whose answer is no; 0 where all are yes
 --   building_questions, drawing_questions,
---   cell_questions                          what building, pictures and greys, and one cell ask
---   placed_questions                        what building with a placement asks
---   table_questions, outline_questions        its two parts: about the tile, and about the outline, beside edges that are in already
+--   cell_questions                           what building, pictures and greys, and one cell ask
+--   placed_questions                         what building with a placement asks
+--   table_questions, outline_questions       its two parts: about the tile, and about the outline, beside edges that are in already
 --   question8_all, pyramid_questions         question 8 of all levels in one buffer, and what drawing them asks
 use Rattle.std.specs.Prelude.{◌≡◌, Bool, true, false, ◌&&◌, cond, List, [], ◌∷◌, ℕ, suc, ◌+◌, ◌*◌, ◌^◌, eqb, leb, ltb, length, ℤ, pos, neg_ℤ}
 use Rattle.std.specs.Int.Count.{count_trailing_zeros}

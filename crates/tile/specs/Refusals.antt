@@ -2,19 +2,19 @@
 -- papers' words.
 --
 -- Main results (the laws among them are in proofs/Theorems/Refusals.antt)
---   BuildingRefusals, building_refusals     when building answers each number
---   PlacedRefusals, placed_refusals         the same of building with a placement
---   DrawingRefusals, drawing_refusals       the same of pictures and greys
---   CellRefusals, cell_refusals             and of one cell
---   PyramidRefusals, pyramid_refusals       and of all levels in one buffer
+--   BuildingRefusals, building_refusals      when building answers each number
+--   PlacedRefusals, placed_refusals          the same of building with a placement
+--   DrawingRefusals, drawing_refusals        the same of pictures and greys
+--   CellRefusals, cell_refusals              and of one cell
+--   PyramidRefusals, pyramid_refusals        and of all levels in one buffer
 --   refused_edges, refused_table,
 --   refused_placed_edges,
 --   refused_placed_table,
 --   refused_figures, refused_greys,
---   refused_figure, refused_pyramid         what a refusal carries and leaves
+--   refused_figure, refused_pyramid          what a refusal carries and leaves
 --   question1_means .. question10_means,
 --   question8_all_means, question12_means    what "yes" says; `no_means` of `integers`' Tests makes of each what "no" says
---   side_of_depth, depth_of_side            a side is 2 to the power of its depth, and each depth has its side
+--   side_of_depth, depth_of_side             a side is 2 to the power of its depth, and each depth has its side
 use Rattle.std.specs.Prelude.{◌≡◌, List, [], ◌∷◌, ◌↔◌, ℕ, ℤ}
 use Rattle.integers.specs.ListSum.{All}
 use Rattle.placement.specs.declared.Placement.{Placement}

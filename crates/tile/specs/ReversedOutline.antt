@@ -16,7 +16,7 @@
 --   reversed-placed_greys        the same with a placement
 -- Instances
 --   letter_a-reversed,
---   letter_g-reversed             "B. A reversed", "H. G reversed"
+--   letter_g-reversed            "B. A reversed", "H. G reversed"
 use Rattle.std.specs.Prelude.{List, map, reverse, ℕ, ℤ}
 use Rattle.accuracy.specs.Outline.{contours_of}
 use Rattle.tile.specs.Written.{coordinates}

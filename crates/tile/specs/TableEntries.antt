@@ -3,7 +3,7 @@
 --
 -- Main results (the laws among them are in proofs/Theorems/TableEntries.antt)
 --   built_length                 the table has side × side entries
---   built_root_lem                   "Entry 0 is the root, the signed area of the whole outline"
+--   built_root_lem               "Entry 0 is the root, the signed area of the whole outline"
 --   built_detail                 a cell's detail: the sum over the edges of the exact integral rounded to a whole unit, each edge's on its own
 --   exact-whole                  before rounding: the root is the exact area of the tile
 --   exact_quarter                four times the exact area of a quarter is its cell's ± h ± v ± d

@@ -1,7 +1,7 @@
 -- Contours written as an outline, as building takes it: `contours_of` of `accuracy` reads them back (`Laws/Written`).
 --
 -- Definitions
---   Contour                      a contour is the list of its points, in the order in which they are joined, from the first one on
+--   Contour                       a contour is the list of its points, in the order in which they are joined, from the first one on
 --   coordinates_of, coordinates   x and y of each point in turn, of one contour and of all
 --   counts_of                     how many points each has
 use Rattle.std.specs.Prelude.{List, [], ◌∷◌, ◌++◌, map, ℕ, length, ℤ}

@@ -1,4 +1,4 @@
-/* Grey tiles from traced outlines: the seventeen calls of the proved library libtile_c.a, which `rt staticlib tile_c` makes.
+/* Grey tiles from traced outlines: the seventeen calls of the proved library libtile_c.a, which `rt lib` makes.
  *
  * A tile is a square of 1, 2, 4, 8, 16, 32 or 64 pixels a side; a step is 1/256 pixel; x grows to the right, y downwards. An outline is
  * closed contours of whole points, letters clockwise as seen on the page, the holes in them anticlockwise, or all of it the other way round:

@@ -2,11 +2,11 @@
 -- says which. A list of another length is no placement; 02 has no word for it, and ours is 12, in that question's place.
 --
 -- Definitions
---   refused_placement             a placement that question 12 refuses, whatever the points
---   placement_of numbers          the placement
+--   refused_placement                     a placement that question 12 refuses, whatever the points
+--   placement_of numbers                  the placement
 -- Main results (the laws among them are in proofs/Theorems/PlacementNumbers.antt)
---   of_none, of_scale, of_shift, of_turn      the placement of as many numbers
---   other_length                              a list of another length is refused by question 12, whatever the points
+--   of_none, of_scale, of_shift, of_turn  the placement of as many numbers
+--   other_length                          a list of another length is refused by question 12, whatever the points
 use Rattle.std.specs.Prelude.{false, cond, List, eqb, length, get_or, pos, Float}
 use Rattle.std.specs.Float.{nan, fin}
 use Rattle.placement.specs.declared.Placement.{Placement}

@@ -2,8 +2,8 @@
 --
 -- Main results
 --   contour_edges-length, outline_edges-length      "The edges are as many as the points."
---   outline_closed                                whatever is gained along the edges adds up to 0
---   contour_on_tile, outline_on_tile              a contour's edges are on the tile; an outline's are closed and on the tile
+--   outline_closed                                  whatever is gained along the edges adds up to 0
+--   contour_on_tile, outline_on_tile                a contour's edges are on the tile; an outline's are closed and on the tile
 use Rattle.std.specs.Prelude.{◌≡◌, ℕ, suc, ◌+◌, length, ℤ, pos, ◌-ℤ◌}
 use Rattle.std.proofs.Math.Path.{refl, ap₂}
 use Rattle.std.proofs.Common.{◌∙◌, ap, length-append}

@@ -2,7 +2,7 @@
 --
 -- Main results
 --   points_of-length              there are half as many points as coordinates
---   taken_points                 n of them in the first 2n coordinates
+--   taken_points                  n of them in the first 2n coordinates
 --   points_of_entry               point k has coordinates 2k and 2k + 1
 --   contours_of-count             "The edges are as many as the points": the counts' sum
 --   OnSide, points_on,

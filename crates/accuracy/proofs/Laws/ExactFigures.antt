@@ -2,7 +2,7 @@
 --
 -- Main results
 --   exact_table depth es          the table with its details as they are before rounding, `denominator es` times over
---   exact_figure                 its figures are 4^L times the exact areas
+--   exact_figure                  its figures are 4^L times the exact areas
 use Rattle.std.specs.Prelude.{◌≡◌, List, ℕ, suc, ◌/◌, ◌^◌, ◌<◌, ◌≤◌, pos, ◌+ℤ◌, ◌*ℤ◌}
 use Rattle.std.proofs.Common.{sym, ◌∙◌, ap, ap₂, arith}
 use Rattle.edge.specs.declared.Edge.{Edge}

@@ -2,11 +2,11 @@
 -- such edges; and of one contour, those of one that is walked the other way from any of its points.
 --
 -- Definitions
---   EdgesReversed es fs          the edges fs are the edges es, each walked backwards, in whatever order
+--   EdgesReversed es fs           the edges fs are the edges es, each walked backwards, in whatever order
 -- Main results
 --   table_from-reversed           edges that are reversed, in whatever order, have the opposite table, where the root is opposite
 --   outline_table-reversed        so it is with the signed area
---   length-reversed              they are as many
+--   length-reversed               they are as many
 --   denominator-reversed,
 --   exact_area_reversed           and have opposite exact areas, over the same denominator
 --   tile_root-reversed,
@@ -16,7 +16,7 @@
 --   contour_edges-back            a contour walked the other way from its first point: its edges reversed, in another order
 --   contour_edges-reverse         the same of its points backwards, so that the first comes last
 --   outline_edges-reverse         each contour of an outline backwards
---   outline_reversed             so an outline with the points of each contour backwards has the opposite table
+--   outline_reversed              so an outline with the points of each contour backwards has the opposite table
 use Rattle.std.specs.Prelude.{◌≡◌, refl, ℕ, length, ℤ, negsuc, neg_ℤ, ◌*ℤ◌}
 use Rattle.std.proofs.Common.{sym, ◌∙◌, ap, ap₂, subst, subst₂}
 use Rattle.std.proofs.Math.Path.{fun_ext}

@@ -1,7 +1,7 @@
 -- The cells of a tile as squares: a cell of the next level is a quarter of its parent.
 --
 -- Main results
---   cell_width-halves                  a cell's width is twice that of the next level
+--   cell_width-halves            a cell's width is twice that of the next level
 --   square-quarter               so a cell's square is a quarter of its parent's
 --   square-tile                  the cell of level 0 is the tile
 use Rattle.std.specs.Prelude.{◌≡◌, [], ◌∷◌, ℕ, suc, ◌*◌, ◌-◌, ◌/◌, ◌%◌, ◌^◌, ◌<◌, pos, negsuc, ◌+ℤ◌, ◌*ℤ◌}

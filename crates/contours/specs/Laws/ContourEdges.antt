@@ -3,9 +3,9 @@
 -- Main results
 --   next_within, next_last       the point after k: k + 1, and after the last the first
 --   next_lt                      it is one of the points
---   contour_edges_entry           they are a contour's edges
---   contour_edges-sum             so a sum over a contour's edges is the sum over their numbers
---   edge_of-has                   and what is known of all of them is known of each
+--   contour_edges_entry          they are a contour's edges
+--   contour_edges-sum            so a sum over a contour's edges is the sum over their numbers
+--   edge_of-has                  and what is known of all of them is known of each
 use Rattle.std.specs.Prelude.{◌≡◌, refl, cond, List, [], ◌∷◌, ◌++◌, ℕ, zero, suc, ◌+◌, ◌/◌, ◌<◌, ◌≤◌, length, get_or, ℤ, pos}
 use Rattle.std.proofs.Common.{sym, ◌∙◌, ap, ap₂, subst, arith, add-one, lt-ltb, le-ltb}
 use Rattle.std.proofs.Math.Decide.{dec_lt}

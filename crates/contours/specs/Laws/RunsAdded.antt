@@ -1,7 +1,7 @@
 -- What an edge in a cell adds in the whole tile: what it adds in the cells above, and what it adds in the cell and below it.
 --
 -- Main results
---   cell_on_sheet_lem                an edge in a cell of the tile is on the tile, and so on one sheet with it
+--   cell_on_sheet_lem            an edge in a cell of the tile is on the tile, and so on one sheet with it
 --   on_sheet_at                  an edge on one sheet with the tile is so with each cell of the tile
 --   contribution-above           what an edge adds in the tile, from the cell that it lies in
 --   contribution-join            the same after a run in that cell: above it the edge joins the run

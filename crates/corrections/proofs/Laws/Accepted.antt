@@ -2,9 +2,9 @@
 --
 -- Main results
 --   is_contour reach c            questions 4 and 6 of one contour
---   written_accepted             building accepts contours exactly where each of them is one, and they have no more edges than the most
---   site_built                   what it then leaves, and the count that it reports
---   contours_within              the edges of such contours lie within reach
+--   written_accepted              building accepts contours exactly where each of them is one, and they have no more edges than the most
+--   site_built                    what it then leaves, and the count that it reports
+--   contours_within               the edges of such contours lie within reach
 use Rattle.std.specs.Prelude.{◌≡◌, refl, ◌↔◌, Bool, true, ◌&&◌, List, [], ◌∷◌, ℕ, ◌*◌, ◌≤◌, length, ℤ, pos}
 use Rattle.std.proofs.Common.{sym, ◌∙◌, ap, ap₂, subst}
 use Rattle.std.proofs.Math.Path.{subst⁻¹}

@@ -3,9 +3,9 @@
 -- Main results
 --   cells_at site                 how many entries the table has
 --   part_of edges site c i        what a contour adds to entry i, by its edges
---   parts_table                  so contours' values, added to a table of zeros, make the table of their edges, one after the other
---   values_within                the values of edges in view are at most what the most edges add
---   added_in_range               two such tables, added, are in question 9's range
+--   parts_table                   so contours' values, added to a table of zeros, make the table of their edges, one after the other
+--   values_within                 the values of edges in view are at most what the most edges add
+--   added_in_range                two such tables, added, are in question 9's range
 use Rattle.std.specs.Prelude.{◌≡◌, refl, ℕ, ◌+◌, ◌*◌, ◌<◌, ◌≤◌, length, get_or, replicate, ℤ, pos, ◌*ℤ◌}
 use Rattle.std.proofs.Math.Path.{sym, ap₂}
 use Rattle.std.proofs.Common.{◌∙◌, ap, subst, mul-le-mul_right, lit≤}

@@ -1,13 +1,13 @@
 -- What the answers of a call on a contour with marks say; and such a call, not refused, takes a tile that holds contours to one that holds one more, or one fewer.
 --
 -- Main results
---   one_contour                  the outline of a single contour that is accepted has the contour's edges
---   AcceptedCurve, curve_accepted     the answers of a call that is not refused
---   curve_room, contour_near     there is room for its edges; and its chords are near their curves
---   corrected_curve_is           the tile that it leaves
+--   one_contour                    the outline of a single contour that is accepted has the contour's edges
+--   AcceptedCurve, curve_accepted  the answers of a call that is not refused
+--   curve_room, contour_near       there is room for its edges; and its chords are near their curves
+--   corrected_curve_is             the tile that it leaves
 --   holds_put_curve,
---   holds_taken_curve            what that holds
---   curve_same_side              the call has the tile's side
+--   holds_taken_curve              what that holds
+--   curve_same_side                the call has the tile's side
 use Rattle.std.specs.Prelude.{◌≡◌, true, ◌&&◌, List, [], ◌∷◌, ◌++◌, ◌↔◌, ℕ, ◌+◌, ◌≤◌, eqb, length, take, ℤ}
 use Rattle.std.proofs.Common.{sym, ◌∙◌, ap, ap₂, subst, append-nil, le_of_eq, take_all}
 use native.Mathlib.Omega.{arith}

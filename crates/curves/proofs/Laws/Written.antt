@@ -1,12 +1,12 @@
 -- Contours with marks, written as an outline: they are read back as they were, and what is asked of the outline is asked of each of them.
 --
 -- Main results
---   Shaped c, shaped_means       a contour with as many coordinates as its marks say
---   curves_back                  the contours of the outline are those that it was made of
---   written_marks_lem, written_points_lem there is a mark for each edge, and as many coordinates as the marks say
+--   Shaped c, shaped_means                 a contour with as many coordinates as its marks say
+--   curves_back                            the contours of the outline are those that it was made of
+--   written_marks_lem, written_points_lem  there is a mark for each edge, and as many coordinates as the marks say
 --   is_marked_contour reach c              questions 4, 16 and 6 of one contour
---   curves_asked                 they are answered yes of the outline exactly where they are of each contour
---   written_accepted             so building accepts contours exactly where each of them is one, and they have no more edges than the most
+--   curves_asked                           they are answered yes of the outline exactly where they are of each contour
+--   written_accepted                       so building accepts contours exactly where each of them is one, and they have no more edges than the most
 use Rattle.std.specs.Prelude.{◌≡◌, refl, Bool, true, ◌&&◌, List, [], ◌∷◌, ◌++◌, ◌↔◌, ℕ, ◌+◌, ◌*◌, ◌≤◌, eqb, leb, length, take, drop, ℤ, pos}
 use Rattle.std.proofs.Common.{sym, ◌∙◌, ap, ap₂, arith, length-append, take_at, drop_at}
 use Rattle.integers.specs.Units.{steps_per_pixel, fewest_points, most_points, most_edges}

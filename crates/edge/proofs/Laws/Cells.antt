@@ -3,7 +3,7 @@
 -- Main results
 --   contains_refl, contains_trans, contains_quarter      down the quadtree every cell lies in the one that it began with
 --   half_view, half_below                                the first half or the second
---   quarter_on, before_half_lem                              an edge in a cell lies in a quarter, where its ends lie no farther apart than from the middle, both
+--   quarter_on, before_half_lem                          an edge in a cell lies in a quarter, where its ends lie no farther apart than from the middle, both
 --                                                        ways; from the middle of the cell to that of the quarter
 --   extent_at_most, extent_times                         bounds of an extent
 --   difference_on, product_on                            two coordinates between two sides are at most the width apart; the product of two

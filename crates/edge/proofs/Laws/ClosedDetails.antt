@@ -1,9 +1,9 @@
 -- The rounded details by the closed form, for every edge. The sums over a walk's steps are too long to compute; this computes at once.
 --
 -- Main results
---   closed_numerators             the closed form's numerators of h, v and d
+--   closed_numerators              the closed form's numerators of h, v and d
 --   no_details, closed_details     the same rounded; none where no step of the walk lies strictly inside the cell
---   details-closed               and these are the details
+--   details-closed                 and these are the details
 use Rattle.std.specs.Prelude.{◌≡◌, [], ◌∷◌, Bool, cond, ℤ, pos, neg_ℤ, ◌+ℤ◌, ◌≤ℤ◌, ◌<ℤ◌}
 use Rattle.std.proofs.Math.Path.{refl}
 use Rattle.std.proofs.Common.{ap}

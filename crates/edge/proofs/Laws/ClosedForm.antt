@@ -2,7 +2,7 @@
 -- cell's middle in one direction and in the other. (Where none does, they are 0: the zero law.)
 --
 -- Main results
---   three_at, edge_cuts                                         three pieces at the cuts; the cuts of an edge's walk
+--   three_at, edge_cuts                                       three pieces at the cuts; the cuts of an edge's walk
 --   ordered                                                   the cuts are steps of the walk, in order
 --   x_closed, y_closed                                        from the first to the last the walk is in the closed cell
 --   near-past-closed, past-near-closed, near-near-closed      the closed form of a walk

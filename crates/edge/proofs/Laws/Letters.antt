@@ -3,7 +3,7 @@
 -- Main results
 --   g, f                         these edges
 --   g-steps, g_h, g-details      G: h is 2,038 / 4 = 509 1/2, "rounded to 510"
---   g-reversed                    H, "G reversed": the opposite
+--   g-reversed                   H, "G reversed": the opposite
 --   f-steps, f_h, f-details      F: "Exact h is 298 2/3", 114,688 / 384, which rounds to 299
 use Rattle.std.specs.Prelude.{◌≡◌, refl, pos, negsuc}
 use Rattle.std.proofs.Common.{◌∙◌, ap}

@@ -4,10 +4,10 @@
 -- in a finer scale: |dy| times as fine in x, and |dx| times in y.
 --
 -- Main results
---   diagonal_down, diagonal_up                                          an edge at 45 degrees: dx = dy, or dx = −dy
+--   diagonal_down, diagonal_up                                   an edge at 45 degrees: dx = dy, or dx = −dy
 --   unit_area, unit_h, unit_v, unit_d                            the four sums along it
---   area_octilinear, h_octilinear, v_octilinear, d_octilinear        an octilinear edge's numerators are these times its steps
---   octilinear_exact                                           so rounding keeps its three details
+--   area_octilinear, h_octilinear, v_octilinear, d_octilinear    an octilinear edge's numerators are these times its steps
+--   octilinear_exact                                             so rounding keeps its three details
 --   octilinear_inside, octilinear_inside_unit                    it lies strictly inside a cell exactly where its unit walk does
 use Rattle.std.specs.Prelude.{◌≡◌, refl, [], ◌∷◌, ℕ, ◌*◌, ◌<◌, max, ℤ, ◌+ℤ◌, ◌*ℤ◌, ◌≤ℤ◌}
 use Rattle.std.proofs.Common.{sym, ◌∙◌, ap, subst, subst₂, mul-one, le_refl, arith}

@@ -1,15 +1,15 @@
 -- The sum over the steps is the integral, whatever the number of steps: with more and shorter ones the values are the same.
 --
 -- Main results
---   finer                                          an axis in a scale k times as fine, and so in steps k times as short
---   Finer, S-finer                                 f and g k and l times as large as F and G, linear in r parts of each step: k l times their sum
---   Pace, Subdivided, subdivided, x_subdivided, y_subdivided                   axes of which one step is r steps of `finer k`; for k = r all that move by at most one
+--   finer                                                     an axis in a scale k times as fine, and so in steps k times as short
+--   Finer, S-finer                                            f and g k and l times as large as F and G, linear in r parts of each step: k l times their sum
+--   Pace, Subdivided, subdivided, x_subdivided, y_subdivided  axes of which one step is r steps of `finer k`; for k = r all that move by at most one
 --   over, clamped, Piecewise, clamp_piecewise,
---   tent_piecewise                                 functions of the distance past a side that bend at whole numbers only
---   over-finer                                     such a function along an axis, and along the finer one, are `Finer`
---   along-finer                                    the integral along two axes does not depend on the number of steps
---   area_finer, h_finer, v_finer, d_finer          nor do an edge's: in r times as many steps the sums are r² times as large
---   even_nonneg                                    twice a half that is not negative is not negative
+--   tent_piecewise                                            functions of the distance past a side that bend at whole numbers only
+--   over-finer                                                such a function along an axis, and along the finer one, are `Finer`
+--   along-finer                                               the integral along two axes does not depend on the number of steps
+--   area_finer, h_finer, v_finer, d_finer                     nor do an edge's: in r times as many steps the sums are r² times as large
+--   even_nonneg                                               twice a half that is not negative is not negative
 use Rattle.std.specs.Prelude.{◌≡◌, refl, [], ◌∷◌, ℕ, zero, suc, ◌+◌, ◌*◌, ◌≤◌, ℤ, pos, ◌+ℤ◌, ◌-ℤ◌, ◌*ℤ◌, ◌≤ℤ◌}
 use Rattle.std.proofs.Common.{sym, ◌∙◌, ap₂, subst, zero-mul, suc-mul, add-zero, arith}
 use Rattle.std.proofs.Math.Path.{ap}

@@ -1,9 +1,9 @@
 -- An edge walked the other way has the opposite integrals, the opposite rounded details, the opposite rounded area and the opposite root term.
 --
 -- Main results
---   reverse, opposite                                        the edge with its end points exchanged; details of the opposite sign
---   steps-reverse                                            the walk back is as long
---   area_reverse, h_reverse, v_reverse, d_reverse            each numerator is opposite
+--   reverse, opposite                                         the edge with its end points exchanged; details of the opposite sign
+--   steps-reverse                                             the walk back is as long
+--   area_reverse, h_reverse, v_reverse, d_reverse             each numerator is opposite
 --   details-reverse, rounded_area-reverse, root-reverse       and so are the rounded details, the rounded area, and the root term
 use Rattle.std.specs.Prelude.{◌≡◌, [], ◌∷◌, ℕ, zero, suc, ◌+◌, ◌*◌, ℤ, pos, negsuc, ◌+ℤ◌, ◌-ℤ◌, ◌*ℤ◌}
 use Rattle.std.proofs.Common.{◌∙◌, ap₂, add-zero, arith}

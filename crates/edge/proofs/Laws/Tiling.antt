@@ -3,7 +3,7 @@
 --
 -- Main results
 --   tile_in left top w i j        tile (i, j), of width w, of the square that begins at (left, top)
---   area_tiles                   the areas add up
+--   area_tiles                    the areas add up
 use Rattle.std.specs.Prelude.{◌≡◌, [], ◌∷◌, ℕ, ℤ, pos, ◌+ℤ◌, ◌*ℤ◌, ◌≤ℤ◌}
 use Rattle.std.proofs.Common.{sym, ◌∙◌, ap}
 use Rattle.integers.proofs.Theorems.Ring.{read, ring}

@@ -4,7 +4,7 @@
 -- Main results
 --   steps_seen, octilinear_seen              the same number of steps; level, upright or at 45 degrees as before
 --   area_seen, h_seen, v_seen, d_seen        the four integrals
---   details_seen, rounded_area_seen           and what is rounded of them
+--   details_seen, rounded_area_seen          and what is rounded of them
 use Rattle.std.specs.Prelude.{◌≡◌, [], ◌∷◌, ℕ, ◌*◌, ℤ, pos, ◌+ℤ◌, ◌-ℤ◌, ◌*ℤ◌}
 use Rattle.std.proofs.Common.{sym, ◌∙◌, ap}
 use Rattle.std.proofs.Math.Path.{ap₂, fun_ext}

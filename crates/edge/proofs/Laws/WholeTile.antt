@@ -2,7 +2,7 @@
 --
 -- Main results
 --   stays_between           a walk whose two ends lie between two sides stays between them
---   root_boundary            the term of an end point
+--   root_boundary           the term of an end point
 --   whole_tile              area = root term + the end points' terms, N times over
 use Rattle.std.specs.Prelude.{◌≡◌, [], ◌∷◌, ◌⊎◌, ℕ, ◌≤◌, ℤ, pos, ◌+ℤ◌, ◌-ℤ◌, ◌*ℤ◌, ◌≤ℤ◌, ◌<ℤ◌}
 use Rattle.std.proofs.Common.{◌∙◌, ap₂, inl, inr, arith}

@@ -1,12 +1,12 @@
 -- The questions that a frame can fail: those that the program's own arrays and the frame's own lines decide are answered yes.
 --
 -- Main results
---   blank, blank-length          a table of zeros
---   build_number_is              building's refusal
---   draw_number_is               and that of the greys, where building is done
---   outline_number               so that of a frame
---   outline_output, outline_table_lem     what is printed of it, and what the table holds afterwards
---   level_refusal_is             the refusal of a level that the tile does not have
+--   blank, blank-length                a table of zeros
+--   build_number_is                    building's refusal
+--   draw_number_is                     and that of the greys, where building is done
+--   outline_number                     so that of a frame
+--   outline_output, outline_table_lem  what is printed of it, and what the table holds afterwards
+--   level_refusal_is                   the refusal of a level that the tile does not have
 use Rattle.std.specs.Prelude.{◌≡◌, Bool, true, false, cond, ◌||◌, List, [], ◌∷◌, ◌++◌, leb, ltb, ℤ, pos, length, get_or, drop, replicate}
 use Rattle.std.proofs.Math.Path.{refl, ap}
 use Rattle.std.proofs.Common.{sym, ◌∙◌, ap₂, true≢false, le_trans, arith, lit<, pow_mono, take-append-drop, length-take-le, le-leb, le-ltb, ltb-false}

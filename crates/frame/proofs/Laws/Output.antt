@@ -6,7 +6,7 @@
 --   first_below                            a list of questions whose numbers are below k refuses with none from k on
 --   draw_number_small, build_number_small  a refusal's number has two digits
 --   Drawn, drawn                           what is known where the greys are not refused
---   table_length_lem, built_table_length       building leaves as many entries
+--   table_length_lem, built_table_length   building leaves as many entries
 --   answer-holds, answer_printed           an answer holds its text, at its start
 use Rattle.std.specs.Prelude.{◌≡◌, refl, Bool, true, false, cond, List, [], ◌∷◌, ℕ, zero, suc, ◌*◌, ◌^◌, ◌<◌, ◌≤◌, leb, ℤ, length, take}
 use Rattle.std.proofs.Common.{sym, ◌∙◌, ap, mul-le-mul, arith, lit<, pow_mono, leb-true}

@@ -11,11 +11,11 @@
 --   reversed_frame f              the frame with each contour's points in the reverse order
 --   reversed_text t               the text of the frame that t says, so reversed
 -- Main results
---   drawn_either_way             where one such text is drawn, so is the other, whose counts pass question 4
---   printed_either_way           what is printed of them differs in the area alone, which is opposite
---   read_reversed                of a text that is a frame's, the reversed text is that of the reversed frame
---   number_reversed              both are drawn, or both refused by the same number
---   printed_reversed             where they are drawn, what is printed of them so differs
+--   drawn_either_way              where one such text is drawn, so is the other, whose counts pass question 4
+--   printed_either_way            what is printed of them differs in the area alone, which is opposite
+--   read_reversed                 of a text that is a frame's, the reversed text is that of the reversed frame
+--   number_reversed               both are drawn, or both refused by the same number
+--   printed_reversed              where they are drawn, what is printed of them so differs
 use Rattle.std.specs.Prelude.{◌≡◌, refl, Bool, true, ◌&&◌, List, [], ◌∷◌, ◌++◌, map, ◌↔◌, ℕ, ◌+◌, ◌*◌, ◌^◌, ◌≤◌, leb, ltb, length, get_or, take, drop, ℤ, pos, neg_ℤ, nat_abs}
 use Rattle.std.proofs.Common.{sym, ◌∙◌, ap, ap₂, subst, arith, length-append, length-drop, length-take-le}
 use Rattle.std.proofs.lemmas.List.{length-map}

@@ -6,7 +6,7 @@
 --   hex-length, hex-digits                 so many digits, and digits
 --   value_append                           digits after digits
 --   value_hex                              the digits of a number stand for it
---   hex_value_lem                              the digits of what digits stand for are these
+--   hex_value_lem                          the digits of what digits stand for are these
 --   value_lt                               what n digits stand for is below 16^n
 use Rattle.std.specs.Prelude.{◌≡◌, ℕ, zero, suc, ◌+◌, ◌*◌, ◌/◌, ◌%◌, ◌^◌, ◌<◌, ◌≤◌, Bool, true, false, cond, ◌&&◌, List, [], ◌∷◌, ◌++◌, length, ◌==◌, nat_eq, slice_index, refl}
 use Rattle.std.proofs.Common.{sym, ◌∙◌, ap, ap₂, subst, append_assoc, append-nil, mod-lt, div-lt_iff_lt-mul, add-zero, mod-eq_of_lt, arith, length-append, eqb-true, ltb-true, lt-ltb}

@@ -1,7 +1,7 @@
 -- Writing over a list, piece by piece.
 --
 -- Main results
---   over_at at new old          the old list with the new one written over it from a place on
+--   over_at at new old         the old list with the new one written over it from a place on
 --   over-piece                 a piece is written from the place on: the rest goes after it
 --   written, written_length    the same of a list that a function left
 --   set-over, over_entry       one entry

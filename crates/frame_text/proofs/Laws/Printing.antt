@@ -1,8 +1,8 @@
 -- How long what is printed is, and a picture's lines, row by row.
 --
 -- Main results
---   line_text_length, row-length, rows_text_length, summary_length_lem     lengths
---   rows_next                                                               a picture's first row, and the others
+--   line_text_length, row-length, rows_text_length, summary_length_lem  lengths
+--   rows_next                                                           a picture's first row, and the others
 use Rattle.std.specs.Prelude.{◌≡◌, ℕ, zero, suc, ◌+◌, ◌*◌, ◌≤◌, List, [], ◌∷◌, ◌++◌, length, take, drop, ℤ, refl}
 use Rattle.std.proofs.Common.{◌∙◌, suc-mul, arith, length-append, length-drop, length-take-le}
 use Rattle.frame_text.specs.Digits.{hex, twos_complement}

@@ -1,7 +1,7 @@
 -- The text of a frame, read again.
 --
 -- Main results
---   all_hex, line_text_is             a line's digits, and the end of the line
+--   all_hex, line_text_is            a line's digits, and the end of the line
 --   lines_line, closes_line          lines are where they were written
 --   written_is_frame                 the text of a frame passes question 11
 --   written_frame                    and what is read of it is the frame

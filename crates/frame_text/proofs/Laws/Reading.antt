@@ -1,13 +1,13 @@
 -- What is read of a text that passes question 11.
 --
 -- Main results
---   coordinates_next, coordinates_none     the numbers of a line, one after the other
---   coordinates-length                     how many there are
---   ContourLine, contour_line              a contour's line
---   Closed, closed                         a line of a text after a frame's first line: it is closed, and a contour's; and the text after it is so formed
---   body_coordinates_next, body_counts_next   what is read of it and of the lines after it
---   Framed, framed                         a frame's first line, and the text after it
---   frame_is                               what is read of both
+--   coordinates_next, coordinates_none       the numbers of a line, one after the other
+--   coordinates-length                       how many there are
+--   ContourLine, contour_line                a contour's line
+--   Closed, closed                           a line of a text after a frame's first line: it is closed, and a contour's; and the text after it is so formed
+--   body_coordinates_next, body_counts_next  what is read of it and of the lines after it
+--   Framed, framed                           a frame's first line, and the text after it
+--   frame_is                                 what is read of both
 use Rattle.std.specs.Prelude.{◌≡◌, ℕ, suc, ◌/◌, ◌%◌, ◌<◌, ◌≤◌, true, ◌&&◌, List, [], ◌∷◌, ◌++◌, map, length, take, drop, pos, ◌==◌, nat_le, nat_lt, refl}
 use Rattle.std.proofs.Common.{sym, ◌∙◌, ap, ap₂, subst, true≢false, arith, length-take-le, eqb-true, leb-true, ltb-true}
 use Rattle.std.proofs.Math.Decide.{dec_lt}

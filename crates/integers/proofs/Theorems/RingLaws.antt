@@ -1,12 +1,12 @@
 -- The commutative ring laws of ℤ that the library's `lib.IntN` lacks.
 --
 -- Main results
---   *ℤ_distribʳ, *ℤ_distribˡ     multiplication distributes over addition
---   *ℤ_assoc                     multiplication is associative
---   neg-*ℤ                       −a × b is −(a × b)
---   *ℤ-1, 1-*ℤ                   1 is neutral, written `pos 1`
---   eq_of_sub_zero               a − b = 0 only where a = b
---   +ℤ-left_comm, *ℤ-left_comm, *ℤ_swap4     regrouping
+--   *ℤ_distribʳ, *ℤ_distribˡ              multiplication distributes over addition
+--   *ℤ_assoc                              multiplication is associative
+--   neg-*ℤ                                −a × b is −(a × b)
+--   *ℤ-1, 1-*ℤ                            1 is neutral, written `pos 1`
+--   eq_of_sub_zero                        a − b = 0 only where a = b
+--   +ℤ-left_comm, *ℤ-left_comm, *ℤ_swap4  regrouping
 -- With the laws of `lib.IntN` that the `use` lines here, in `Polynomial` and in `Ring` name, these are all that `ring` rests on.
 use Rattle.std.specs.Prelude.{◌≡◌, ℕ, zero, suc, ℤ, pos, negsuc, neg_ℤ, ◌+ℤ◌, ◌-ℤ◌, ◌*ℤ◌}
 use Rattle.std.proofs.Common.{sym, ◌∙◌, ap, ap₂}

@@ -1,7 +1,7 @@
 -- Each tactic at work on a goal of this project. Copy from here.
 --
 -- Main results: none; the goals are
---   shoelace, next_term          `ring`
+--   shoelace, next_term              `ring`
 --   green                            `comb`
 --   past_the_middle, lighter         `lin≤`, with facts, with weights
 --   before_the_far_side, one_more    `lin<`, with facts, with none

@@ -1,11 +1,11 @@
 -- An edge that is as the tile has it: what the functions ask of it, and what it adds to a whole table.
 --
 -- Main results
---   measured_in, room_in         its coordinates are in `edge`'s range, and it has room in the tile's square
---   root_part_small              its part of the root is no larger than a detail
---   root-inside                  a table has a root
---   tile-ready                   so a table with room for it can be given to the recursion, once the root has its part
---   rooted_added                 something added at the root is an addition to every entry, of nothing elsewhere
+--   measured_in, room_in             its coordinates are in `edge`'s range, and it has room in the tile's square
+--   root_part_small                  its part of the root is no larger than a detail
+--   root-inside                      a table has a root
+--   tile-ready                       so a table with room for it can be given to the recursion, once the root has its part
+--   rooted_added                     something added at the root is an addition to every entry, of nothing elsewhere
 --   edge_entry_lem, edge-added       the root's part and the recursion's are what the edge adds
 use Rattle.std.specs.Prelude.{◌≡◌, List, [], ◌∷◌, ℕ, zero, suc, ◌+◌, ◌*◌, ◌-◌, ◌/◌, ◌^◌, ◌<◌, ◌≤◌, length, get_or, set, ℤ, pos, ◌+ℤ◌}
 use Rattle.std.proofs.Common.{sym, ◌∙◌, ap, arith, length-set, get_or-set_same, get_or-set_other}

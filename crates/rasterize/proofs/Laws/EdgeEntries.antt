@@ -2,7 +2,7 @@
 -- quadtree has that cell once.
 --
 -- Main results
---   own_part_cell                 what a cell's own details add to a detail's entry: that detail if the cell is its own, and else 0
+--   own_part_cell                what a cell's own details add to a detail's entry: that detail if the cell is its own, and else 0
 --   contribution-covers          what an edge adds there in a cell and below it: the detail if its cell is covered, and else 0
 --   contribution_detail          so in the whole tile it adds the detail
 --   contribution-root            no cell adds anything to the root

@@ -1,10 +1,10 @@
 -- Half of a square's width; and the quarters of a cell of the tile, which are cells of the tile, one level down.
 --
 -- Main results
---   few                          a cell's numbers are below the deepest level's
+--   few                           a cell's numbers are below the deepest level's
 --   half_width_is                 a number that is not negative, and twice which is the width, is half of it
 --   quarter_node_at               quarter q of cell (x, y) is cell (2 x + q % 2, 2 y + q / 2) of the next level
---   quarter-below                in each direction a quarter's number is one of the next level's
+--   quarter-below                 in each direction a quarter's number is one of the next level's
 use Rattle.std.specs.Prelude.{◌≡◌, ℕ, suc, ◌+◌, ◌*◌, ◌/◌, ◌%◌, ◌^◌, ◌<◌, ℤ, pos, negsuc, nat_abs, ◌+ℤ◌, ◌≤ℤ◌}
 use Rattle.std.proofs.Common.{sym, ◌∙◌, ap, ap₂, arith, pow_mono}
 use Rattle.std.proofs.Math.Nat.{pow-succ'}

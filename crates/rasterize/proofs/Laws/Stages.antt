@@ -1,12 +1,12 @@
 -- The way down from cell to cell, as the loop has it.
 --
 -- Main results
---   stage_eq                     a stage by its numbers
---   stage_quarter                the next one is at the quarter that the edge lies in
---   stage_node_lem                   a cell of the tile is worked out again from its stage
---   stage_room                   the numbers are small
---   stage_few                    a cell's numbers are below the deepest level's
---   stage_across                 and its level has at most as many cells across as that one
+--   stage_eq                      a stage by its numbers
+--   stage_quarter                 the next one is at the quarter that the edge lies in
+--   stage_node_lem                a cell of the tile is worked out again from its stage
+--   stage_room                    the numbers are small
+--   stage_few                     a cell's numbers are below the deepest level's
+--   stage_across                  and its level has at most as many cells across as that one
 use Rattle.std.specs.Prelude.{◌≡◌, refl, List, [], ◌∷◌, ℕ, suc, ◌+◌, ◌*◌, ◌/◌, ◌%◌, ◌^◌, ◌<◌, ◌≤◌, ℤ, pos, ◌+ℤ◌, ◌*ℤ◌, ◌≤ℤ◌}
 use Rattle.std.proofs.Common.{sym, ◌∙◌, ap, ap₂, arith, pow_mono}
 use Rattle.std.proofs.Math.Path.{subst⁻¹}

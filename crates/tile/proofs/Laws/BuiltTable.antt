@@ -2,8 +2,8 @@
 --
 -- Main results
 --   built_is                     what building leaves
---   table_with-length             the table of a list of edges, with whatever root, has side × side entries
---   table_length_lem                 and so that of their own root; `table_of` is that of an outline's edges
+--   table_with-length            the table of a list of edges, with whatever root, has side × side entries
+--   table_length_lem             and so that of their own root; `table_of` is that of an outline's edges
 --   table_same                   it holds the coefficients of the edges' table
 --   table_within, table_in_range its entries are at most what the most edges add, and so in question 9's range
 use Rattle.std.specs.Prelude.{◌≡◌, List, ℕ, ◌*◌, ◌≤◌, length, get_or, ℤ, pos}

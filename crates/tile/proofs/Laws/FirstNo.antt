@@ -2,11 +2,11 @@
 --
 -- Main results
 --   apart                        the numbers are above 0, and no two are the same
---   first_no-zero                 the answer is 0 exactly where every question is answered yes
---   first_no_at                   and a question's number exactly where it is the first to be answered no
+--   first_no-zero                the answer is 0 exactly where every question is answered yes
+--   first_no_at                  and a question's number exactly where it is the first to be answered no
 --   decided_yes, decided_no      the questions before it are then answered yes, and it is answered no
 --   EachNumber, each_number      both of them, of every question of a list
---   first_no_among                no other number is answered
+--   first_no_among               no other number is answered
 use Rattle.std.specs.Prelude.{◌≡◌, refl, List, [], ◌∷◌, ◌++◌, map, ◌↔◌, ◌≢◌, Bool, true, false, not, ◌&&◌, cond, ℕ, T, eqb}
 use Rattle.std.proofs.Common.{sym, ◌∙◌, subst, append-nil, append_assoc, inl, inr, true≢false, T_not}
 use Rattle.std.proofs.Math.Path.{subst⁻¹}

@@ -3,7 +3,7 @@
 -- Main results
 --   contours_back                the contours of the outline are those that it was made of
 --   back_points, points_back     points and their coordinates undo each other
---   coordinates_of-length         there are two coordinates for each point
+--   coordinates_of-length        there are two coordinates for each point
 --   coordinates-length           and two for each edge of the outline
 --   coordinates-back             the outline of contours that were read from an outline is that one
 --   contours_edges               its edge count
