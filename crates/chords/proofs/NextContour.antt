@@ -24,7 +24,7 @@ use Rattle.placement.specs.Placed.{placed}
 use Rattle.placement.proofs.Laws.PlacedPoints.{placed_part}
 use Rattle.chords.specs.Sides.{numbers, MarkedContour, marked_contour, marked_contours}
 use Rattle.chords.specs.Chords.{contour_chords, outline_chords}
-use Rattle.chords.specs.Laws.SidesWithin.{numbers-split}
+use Rattle.chords.proofs.Laws.SidesWithin.{numbers-split}
 use Rattle.chords.proofs.NextSide.{HalfOf, some_half}
 
 -- there are two numbers for each point

@@ -27,7 +27,8 @@ use Rattle.chords.specs.declared.Side.TheVariants.{Straight, Curved}
 use Rattle.chords.specs.Sides.{numbers_of, numbers, curve_between, start_or, sides_from}
 use Rattle.chords.specs.Chords.{chords_of}
 use Rattle.chords.specs.Inner.{next_from, side_at}
-use Rattle.chords.specs.Laws.SidesWithin.{SideWithin, some-numbers, from_within}
+use Rattle.chords.specs.Laws.SidesWithin.{SideWithin}
+use Rattle.chords.proofs.Laws.SidesWithin.{some-numbers, from_within}
 
 -- ---- points
 point-drop : (zs : List ℤ) (k j : ℕ) → point_at (drop (2 * k) zs) j ≡ point_at zs (k + j)

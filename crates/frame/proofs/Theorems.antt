@@ -8,3 +8,4 @@ pub mod Refusals
 pub mod Theorem
 -- 02's wrong-handed tracing: a frame traced the other way round is printed with the same greys
 pub mod EitherWay
+pub mod PrintedReversed

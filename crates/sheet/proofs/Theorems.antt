@@ -11,3 +11,4 @@ pub mod TilesAddUp
 pub mod OneTile
 -- traced the other way round, every tile has the opposite table and the same greys (P4)
 pub mod EitherWayOnSheet
+pub mod EitherWayGreysOnSheet

@@ -14,6 +14,7 @@ pub mod PlacedOutline
 pub mod Letters
 -- ---- 02's wrong-handed tracing: a letter and the same one traced the other way round have the same greys; with the points in the reverse order
 pub mod EitherWay
+pub mod EitherWayGreys
 pub mod ReversedOutline
 -- ---- and the search behind question 9 (02, P2)
 pub mod EntrySearch

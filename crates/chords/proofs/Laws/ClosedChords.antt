@@ -27,7 +27,8 @@ use Rattle.chords.specs.declared.Side.{Side}
 use Rattle.chords.specs.declared.Side.TheVariants.{Straight, Curved}
 use Rattle.chords.specs.Sides.{numbers_of, curve_between, side_to, start_or, sides_from, MarkedContour, sides_of}
 use Rattle.chords.specs.Chords.{splits_of, chord_point, chords_of, contour_chords, outline_chords}
-use Rattle.chords.specs.Laws.SidesWithin.{Right, SideWithin, contour_within}
+use Rattle.chords.specs.Laws.SidesWithin.{Right, SideWithin}
+use Rattle.chords.proofs.Laws.SidesWithin.{contour_within}
 
 -- ---- lists by numbers
 total-tabulate : {A : Type 0} (f : A → ℤ) (m : ℕ) (g : ℕ → A) → total f (tabulate m g) ≡ Σ< m (λ i. f (g i))

@@ -7,7 +7,8 @@ use Rattle.curve.specs.Curve.{OnSheet}
 use Rattle.chords.specs.declared.Side.{Side}
 use Rattle.chords.specs.declared.Side.TheVariants.{Straight, Curved}
 use Rattle.chords.specs.Sides.{MarkedContour}
-use Rattle.chords.specs.Laws.SidesWithin.{Right, SideWithin, sides_within}
+use Rattle.chords.specs.Laws.SidesWithin.{Right, SideWithin}
+use Rattle.chords.proofs.Laws.SidesWithin.{sides_within}
 use Rattle.chords.specs.NearCurves.{NearChords, outline_sides}
 
 pub side_near : (s : Side) → SideWithin OnSheet s → NearChords s

@@ -24,7 +24,7 @@ use Rattle.curve.specs.Curve.{OnSheet as CoordinateOnSheet}
 use Rattle.chords.specs.Sides.{numbers, MarkedContour, marked_contour, sides_of, marked_contours}
 use Rattle.chords.specs.NearCurves.{NearChords}
 use Rattle.chords.proofs.Theorems.NearCurves.{side_near}
-use Rattle.chords.specs.Laws.SidesWithin.{contour_within}
+use Rattle.chords.proofs.Laws.SidesWithin.{contour_within}
 use Rattle.chords.specs.Chords.{contour_chords}
 use Rattle.tile.specs.Questions.{Question, Yes, question4}
 use Rattle.tile.proofs.Theorems.Refusals.{question2_means}

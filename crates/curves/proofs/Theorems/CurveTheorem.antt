@@ -23,7 +23,7 @@ use Rattle.curve.specs.Curve.{OnSheet as CoordinateOnSheet, splits_from}
 use Rattle.chords.specs.Sides.{sides_from, marked_contours}
 use Rattle.chords.specs.Chords.{chords_of}
 use Rattle.chords.proofs.Theorems.NearCurves.{sides_near}
-use Rattle.chords.specs.Laws.SidesWithin.{contours_right}
+use Rattle.chords.proofs.Laws.SidesWithin.{contours_right}
 use Rattle.chords.proofs.Laws.ClosedChords.{chords_closed, chords_closed_on}
 use Rattle.tile.specs.Questions.{Question, Yes, depth_of, first_no}
 use Rattle.tile.specs.Outcomes.{if_done}

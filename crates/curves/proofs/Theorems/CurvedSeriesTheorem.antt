@@ -38,7 +38,7 @@ use Rattle.rasterize.proofs.Laws.Adding.{added_same}
 use Rattle.chords.specs.Sides.{numbers, sides_from, MarkedContour, marked_contours}
 use Rattle.chords.specs.Chords.{chords_of, contour_chords}
 use Rattle.chords.proofs.Theorems.AllStraight.{straight_contour, zeros-numbers}
-use Rattle.chords.specs.Laws.SidesWithin.{numbers-split}
+use Rattle.chords.proofs.Laws.SidesWithin.{numbers-split}
 use Rattle.curve.specs.Curve.{splits_from}
 use Rattle.haar.specs.Pictures.{tabulate}
 use Rattle.tile.specs.Questions.{Yes, depth_of, question2, question4, question5_beside, question6}

@@ -103,7 +103,7 @@ module _ (t : List ℕ) (is : is_frame t ≡ true) where
   written : Writable f × (frame_text f ≡ t) × (length t ≤ text_limit)
   written = written_read t is
 
-  long : length f.points ≡ 2 * edge_count f.counts
+  pub long : length f.points ≡ 2 * edge_count f.counts
   long = written.0.all_points
 
   -- the same reversed
@@ -143,7 +143,7 @@ module _ (t : List ℕ) (is : is_frame t ≡ true) where
       ∙ ap number (reversed-every f.points f.counts long on_tile)
 
 -- ---- texts that are drawn
-is_frame_lem : (t : List ℕ) → frame_refusal t ≡ 0 → is_frame t ≡ true
+pub is_frame_lem : (t : List ℕ) → frame_refusal t ≡ 0 → is_frame t ≡ true
 is_frame_lem t done = ((frame_refusals t).accepted.0 done).0
 
 drawn_is : (t : List ℕ) → frame_refusal t ≡ 0 → output_text t ≡ printed_with (frame_of t) (area_of (frame_of t))
@@ -186,12 +186,3 @@ printed_either_way t u done done' side level back =
           ∙ drawn-back (frame_of t).side (frame_of t).level (frame_of t).points g.points (frame_of t).counts g.counts
           (long t (is_frame_lem t done)) (long u (is_frame_lem u done')) back,
     )
-
-pub printed_reversed : (t : List ℕ) → frame_refusal t ≡ 0
-    → (output_text t ≡ printed_with (frame_of t) (area_of (frame_of t))) × (output_text (reversed_text t) ≡ printed_with (frame_of t) (neg_ℤ (area_of (frame_of t))))
-printed_reversed t done =
-    let is = is_frame_lem t done in
-    let read = (read_reversed t is).1 in
-    printed_either_way t (reversed_text t) done (number_reversed t is ∙ done) (ap (λ g. g.side) read) (ap (λ g. g.level) read)
-    (subst (λ (g : Frame). EdgesReversed (edges_of (frame_of t).points (frame_of t).counts) (edges_of g.points g.counts)) (sym read)
-    (edges_of_reversed (frame_of t).points (frame_of t).counts (long t is)))

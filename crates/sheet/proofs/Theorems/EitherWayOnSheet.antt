@@ -100,13 +100,6 @@ module _ (place : SheetTile) (points : List ℤ) (counts : List ℕ) (p : Placem
         if_done_lem (tile_entries place (edges_of (placed p' points') counts')) other done' ∙ reversed_on_sheet_table place (edges_of (placed p points) counts) back
         ∙ sym (ap opposite (if_done_lem (tile_entries place (edges_of (placed p points) counts)) before done))
 
-    pub either_way_on_sheet_greys : (level : ℕ) (picture : List ℕ)
-        → greys_picture place.side level (sheet_table place points' counts' p' other) picture
-        ≡ greys_picture place.side level (sheet_table place points counts p before) picture
-    either_way_on_sheet_greys level picture =
-        ap (λ t. greys_picture place.side level t picture) either_way_on_sheet_table
-        ∙ opposite_greys place.side (sheet_table place points counts p before) level picture
-
 -- ---- an instance: (256,256) (256,768) (768,768) (768,256)
 abbrev way_back : List ℤ
 way_back = pos 256 ∷ pos 256 ∷ pos 256 ∷ pos 768 ∷ pos 768 ∷ pos 768 ∷ pos 768 ∷ pos 256 ∷ []

@@ -132,11 +132,6 @@ module _ (side : ℕ) (points : List ℤ) (counts : List ℕ) (before points' : 
         built_is side points' counts' other done' ∙ reversed_edges_table side (edges_of points counts) back
         ∙ sym (ap opposite (built_is side points counts before done))
 
-    pub either_way_greys : (level : ℕ) (picture : List ℕ)
-        → greys_picture side level (build_table side points' counts' other) picture ≡ greys_picture side level (build_table side points counts before) picture
-    either_way_greys level picture =
-        ap (λ t. greys_picture side level t picture) either_way_table ∙ opposite_greys side (build_table side points counts before) level picture
-
   module _ (p p' : Placement) (done : placed_refusal side points counts p before ≡ 0) (done' : placed_refusal side points' counts' p' other ≡ 0)
       (back : EdgesReversed (edges_of (placed p points) counts) (edges_of (placed p' points') counts')) where
     pub either_way_placed_table : placed_table side points' counts' p' other ≡ opposite (placed_table side points counts p before)

@@ -18,7 +18,8 @@ use Rattle.tile.proofs.Laws.Accepted.{accepted, placed-accepted}
 use Rattle.tile.proofs.Laws.Written.{contours_back, coordinates-length, coordinates-back}
 use Rattle.tile.proofs.Laws.ReversedContours.{reverse-counts, reverse-placed}
 use Rattle.tile.specs.EitherWay.{opposite}
-use Rattle.tile.proofs.Theorems.EitherWay.{either_way_every, either_way_table, either_way_greys, either_way_placed_table, either_way_placed_greys}
+use Rattle.tile.proofs.Theorems.EitherWay.{either_way_every, either_way_table, either_way_placed_table, either_way_placed_greys}
+use Rattle.tile.proofs.Theorems.EitherWayGreys.{either_way_greys}
 use Rattle.tile.specs.ReversedOutline.{reversed}
 
 -- ---- where question 3 is answered yes
