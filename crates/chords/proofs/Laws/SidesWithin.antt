@@ -6,7 +6,6 @@ use Rattle.std.proofs.Math.ListN.{length, drop, length-drop}
 use Rattle.integers.specs.ListSum.{All, tally, joined}
 use Rattle.integers.proofs.Theorems.ListSum.{all_map, all_entry, all_drop, all_take, all_joined}
 use Rattle.accuracy.specs.Outline.{Point, point_at, edge_between, edge_count}
-use Rattle.chords.specs.declared.Side.{Side}
 use Rattle.chords.specs.declared.Side.TheVariants.{Straight, Curved}
 use Rattle.chords.specs.Sides.{numbers_of, numbers, curve_between, start_or, sides_from, MarkedContour, sides_of, marked_contours}
 use Rattle.chords.specs.Laws.SidesWithin.{Right, SideWithin}

@@ -8,7 +8,7 @@
 --   from_within                  the sides from some on
 --   contour_within, sides_within the sides of such a contour, and of an outline
 --   contours_right               the contours of an outline with as many marks and coordinates as it should have are such
-use Rattle.std.specs.Prelude.{◌≡◌, List, ℤ, length}
+use Rattle.std.specs.Prelude.{◌≡◌, ℤ, length}
 use Rattle.integers.specs.ListSum.{All}
 use Rattle.chords.specs.declared.Side.{Side}
 use Rattle.chords.specs.declared.Side.TheVariants.{Straight, Curved}

@@ -36,7 +36,7 @@ use Rattle.tile.specs.Outcomes.{edges_of}
 use Rattle.tile.specs.EitherWay.{opposite}
 use Rattle.tile.proofs.Theorems.EitherWay.{reversed_edges_table, either_way_count, either_way_every}
 use Rattle.tile.specs.ReversedOutline.{reversed}
-use Rattle.tile.proofs.Theorems.ReversedOutline.{reversed-length, reversed-every, edges_of_reversed}
+use Rattle.tile.proofs.Theorems.ReversedOutline.{reversed-length, reversed-every}
 use Rattle.tile.proofs.Laws.IfDone.{if_done_lem}
 use Rattle.frame_text.specs.Lines.{line_text}
 use Rattle.frame_text.specs.Frames.{Frame, frame, head_width, coordinate_width, contour_text, frame_text, Sayable, Writable}

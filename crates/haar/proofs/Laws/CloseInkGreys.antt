@@ -1,19 +1,8 @@
 -- By 01's rule: fractions at most a 255th of the full figure apart have greys at most one apart.
-use Rattle.std.specs.Prelude.{◌≡◌, [], ◌∷◌, ℕ, ◌+◌, ◌*◌, ◌<◌, ◌≤◌, ℤ, pos, nat_abs, ◌+ℤ◌, ◌-ℤ◌, ◌*ℤ◌, ◌≤ℤ◌}
-use Rattle.std.proofs.Common.{sym, ◌∙◌, ap, subst, subst₂, arith, mul-pos}
-use Rattle.std.proofs.Math.Path.{subst⁻¹}
-use Rattle.std.specs.Int.Signed.{yes_non_neg, pos-nat_abs}
+use Rattle.std.specs.Prelude.{[], ◌∷◌, ℕ, ◌*◌, ◌<◌, ℤ, pos, ◌-ℤ◌, ◌*ℤ◌}
 use Rattle.integers.specs.Units.{full_grey}
-use Rattle.integers.proofs.Theorems.Ring.{read, ring}
-use Rattle.integers.proofs.Theorems.Order.{≤ℤ-mul, ≤ℤ_scale, pos-≤ℤ, ≤_of_pos, nonneg}
-use Rattle.integers.proofs.Theorems.Linear.{le, eq, ◌&◌, linear, lin≤, lin<}
+use Rattle.integers.proofs.Theorems.Linear.{le, linear, lin≤}
 use Rattle.integers.specs.Within.{Within}
-use Rattle.integers.proofs.Theorems.Within.{bounds, within_self}
-use Rattle.integers.specs.Clamp.{clamp}
-use Rattle.integers.proofs.Theorems.Clamp.{clamp_low, clamp_high, clamp-inside, clamp-mono, clamp_moves}
-use Rattle.integers.specs.Rounding.{round_half_up}
-use Rattle.integers.specs.RoundHalfUp.{UpBounds}
-use Rattle.integers.proofs.Theorems.RoundHalfUp.{round_half_up-bounds, round_half_up_of_bounds, round_half_up-mono, round_half_up-mul, round_half_up_one_apart}
 use Rattle.haar.specs.Greys.{full, ink_grey, OneApart}
 use Rattle.haar.proofs.Laws.InkGreys.{one_up}
 

@@ -23,7 +23,7 @@ use Rattle.integers.proofs.Theorems.Clamp.{clamp_low, clamp_high, clamp-inside, 
 use Rattle.integers.specs.Rounding.{round_half_up}
 use Rattle.integers.specs.RoundHalfUp.{UpBounds}
 use Rattle.integers.proofs.Theorems.RoundHalfUp.{round_half_up-bounds, round_half_up_of_bounds, round_half_up-mono, round_half_up-mul, round_half_up_one_apart}
-use Rattle.haar.specs.Greys.{full, ink_grey, OneApart}
+use Rattle.haar.specs.Greys.{full, ink_grey}
 
 pub full-pos : {side : ℕ} → 0 < side → 0 < full side
 full-pos {side} s = let k : 0 < side * side = mul-pos s s in omega arith

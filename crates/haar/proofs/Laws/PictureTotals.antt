@@ -1,22 +1,15 @@
 -- A picture's figures add up to the level's total.
-use Rattle.std.specs.Prelude.{◌≡◌, refl, [], ◌∷◌, ℕ, zero, suc, ◌^◌, ◌<◌, ℤ, pos, negsuc, ◌+ℤ◌, ◌*ℤ◌}
-use Rattle.std.proofs.Common.{sym, ◌∙◌, ap, ap₂, arith}
-use Rattle.std.proofs.Math.Path.{fun_ext}
-use Rattle.std.proofs.Math.Nat.{pow-zero, pow-succ'}
-use Rattle.std.proofs.Math.IntN.{*ℤ_comm, *ℤ-zero}
-use Rattle.integers.proofs.Theorems.Ring.{read, comb, ◌⊕◌, ◌⊗◌}
+use Rattle.std.specs.Prelude.{◌≡◌, refl, ℕ, zero, suc, ◌^◌, ℤ, pos, ◌+ℤ◌, ◌*ℤ◌}
+use Rattle.std.proofs.Common.{sym, ◌∙◌, ap}
 use Rattle.integers.specs.RangeSum.{Σ<}
-use Rattle.integers.proofs.Theorems.RangeSum.{Σ_cong, Σ-add, Σ_scale, Σ_const, Σ_first, Σ-swap}
+use Rattle.integers.proofs.Theorems.RangeSum.{Σ_first}
 use Rattle.integers.specs.ListSum.{total}
-use Rattle.haar.specs.Cells.{children, details, Cell, cell_at, child}
-use Rattle.haar.specs.Signs.{sign}
+use Rattle.haar.specs.Cells.{children, cell_at}
 use Rattle.haar.specs.Table.{Coefficients}
-use Rattle.haar.specs.Figures.{signed_details, figure}
+use Rattle.haar.specs.Figures.{figure}
 use Rattle.haar.specs.Pictures.{tabulate, picture}
 use Rattle.haar.proofs.Laws.Cells.{level_cells}
-use Rattle.haar.proofs.Laws.CellSums.{Σcells, Σcells_scale, Σcells_one, Σ-cell_at, cells_by_children}
-use Rattle.haar.proofs.Laws.Signs.{sign-row-sum}
-use Rattle.haar.proofs.Laws.Figures.{figure-root, figure-child}
+use Rattle.haar.proofs.Laws.CellSums.{Σ-cell_at}
 use Rattle.haar.proofs.Laws.Totals.{figures_total}
 
 -- ---- a picture

@@ -3,22 +3,19 @@
 -- Main results
 --   children-total               the figures of a cell's children add up to as many times the cell's own
 --   figures_total                the figures of a level add up to the root times the number of its cells
-use Rattle.std.specs.Prelude.{◌≡◌, refl, [], ◌∷◌, ℕ, zero, suc, ◌^◌, ◌<◌, ℤ, pos, negsuc, ◌+ℤ◌, ◌*ℤ◌}
-use Rattle.std.proofs.Common.{sym, ◌∙◌, ap, ap₂, arith}
+use Rattle.std.specs.Prelude.{◌≡◌, [], ◌∷◌, ℕ, zero, suc, ◌^◌, ◌<◌, ℤ, pos, negsuc, ◌+ℤ◌, ◌*ℤ◌}
+use Rattle.std.proofs.Common.{◌∙◌, ap, ap₂, arith}
 use Rattle.std.proofs.Math.Path.{fun_ext}
 use Rattle.std.proofs.Math.Nat.{pow-zero, pow-succ'}
 use Rattle.std.proofs.Math.IntN.{*ℤ_comm, *ℤ-zero}
 use Rattle.integers.proofs.Theorems.Ring.{read, comb, ◌⊕◌, ◌⊗◌}
 use Rattle.integers.specs.RangeSum.{Σ<}
-use Rattle.integers.proofs.Theorems.RangeSum.{Σ_cong, Σ-add, Σ_scale, Σ_const, Σ_first, Σ-swap}
-use Rattle.integers.specs.ListSum.{total}
-use Rattle.haar.specs.Cells.{children, details, Cell, cell_at, child}
+use Rattle.integers.proofs.Theorems.RangeSum.{Σ_cong, Σ-add, Σ_scale, Σ_const, Σ-swap}
+use Rattle.haar.specs.Cells.{children, details, Cell, child}
 use Rattle.haar.specs.Signs.{sign}
 use Rattle.haar.specs.Table.{Coefficients}
 use Rattle.haar.specs.Figures.{signed_details, figure}
-use Rattle.haar.specs.Pictures.{tabulate, picture}
-use Rattle.haar.proofs.Laws.Cells.{level_cells}
-use Rattle.haar.proofs.Laws.CellSums.{Σcells, Σcells_scale, Σcells_one, Σ-cell_at, cells_by_children}
+use Rattle.haar.proofs.Laws.CellSums.{Σcells, Σcells_scale, Σcells_one, cells_by_children}
 use Rattle.haar.proofs.Laws.Signs.{sign-row-sum}
 use Rattle.haar.proofs.Laws.Figures.{figure-root, figure-child}
 

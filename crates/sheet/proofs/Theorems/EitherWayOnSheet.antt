@@ -35,11 +35,11 @@ use Rattle.accuracy.specs.ExactArea.{denominator}
 use Rattle.accuracy.specs.OutlineTable.{tile_table}
 use Rattle.accuracy.proofs.Laws.Reversal.{EdgesReversed, tile_table-reversed, from_tile-reversed}
 use Rattle.tile.specs.Questions.{Yes, depth_of, question4, question12}
-use Rattle.tile.specs.Outcomes.{edges_of, greys_picture}
+use Rattle.tile.specs.Outcomes.{edges_of}
 use Rattle.tile.proofs.Theorems.Refusals.{question3_means}
 use Rattle.tile.specs.Faithful.{figure_num}
 use Rattle.tile.specs.EitherWay.{opposite}
-use Rattle.tile.proofs.Theorems.EitherWay.{opposite_greys, reversed_edges_exact_grey, either_way_count, either_way_every}
+use Rattle.tile.proofs.Theorems.EitherWay.{reversed_edges_exact_grey, either_way_count, either_way_every}
 use Rattle.tile.proofs.Laws.IfDone.{if_done_lem}
 use Rattle.sheet.specs.declared.SheetTile.{SheetTile}
 use Rattle.sheet.specs.SheetOutcomes.{tile_at, seen_from_tile, tile_entries, sheet_refusal, sheet_table}
