@@ -74,7 +74,7 @@ fn declarations_agree() {
     let source = in_one_line(&read("crates/tile_c/src/lib.rt"));
     let header = in_one_line(&read("crates/tile_c/include/mattuliyan.h"));
     let wrapper = in_one_line(&read("rust/mattuliyan/src/lib.rs"));
-    let exported = between(&source, "#[no_mangle] pub extern \"C\" fn ", " ensures ");
+    let exported = between(&source, "#[unsafe(no_mangle)] pub extern \"C\" fn ", " ensures ");
     assert_eq!(exported.len(), 17);
 
     let mut in_c = Vec::new();
