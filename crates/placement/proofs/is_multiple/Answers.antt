@@ -41,14 +41,14 @@ in_parts-parts-requires c = inside_wider (le_trans c.requires (lit≤ tt)) c.arg
 
 pub truncating_f64_to_i64-whole-requires : goal.truncating_f64_to_i64-whole-requires
 truncating_f64_to_i64-whole-requires c =
-    let t = known c.args.limit c.args.x c.requires c.if-bound-x.true c.if-x-bound.true c.in_parts-parts.ensures.in_parts in
-    record { lower_bound = t.low; upper_bound = t.high }
+    let cut = known c.args.limit c.args.x c.requires c.if-bound-x.true c.if-x-bound.true c.in_parts-parts.ensures.in_parts in
+    record { lower_bound = cut.low; upper_bound = cut.high }
 
 pub int_to_float-result : goal.int_to_float-result
 int_to_float-result c =
-    let t = known c.args.limit c.args.x c.requires c.if-bound-x.true c.if-x-bound.true c.in_parts-parts.ensures.in_parts in
+    let float = known c.args.limit c.args.x c.requires c.if-bound-x.true c.if-x-bound.true c.in_parts-parts.ensures.in_parts in
     let whole = c.truncating_f64_to_i64-whole in
-    subst⁻¹ (λ (z : ℤ). T (in_float binary64 z)) (cut_at t whole.type_inv whole.ensures) (whole_fits _ t.small)
+    subst⁻¹ (λ (z : ℤ). T (in_float binary64 z)) (cut_at float whole.type_inv whole.ensures) (whole_fits _ float.small)
 
 pub returns-then-x-bound : goal.returns-then-x-bound
 returns-then-x-bound c =
