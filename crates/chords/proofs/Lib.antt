@@ -8,7 +8,9 @@ pub mod Laws
 pub mod Coordinates
 -- edges that are left to add
 pub mod Left
--- the side that is next in a contour
+-- the mark that is next
+pub mod NextMark
+-- the side that is next
 pub mod NextSide
--- the contour that is next in an outline
+-- the contour that is next
 pub mod NextContour

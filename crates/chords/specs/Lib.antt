@@ -6,7 +6,8 @@ pub mod Sides
 pub mod Chords
 -- ---- "no chord leaves its curve by more than one step", of every curve of an outline
 pub mod NearCurves
--- ---- what inner functions answer
+-- ---- as the code hands them on; what an inner function answers
+pub mod Marked
 pub mod Inner
 -- ---- how it is proved, and what else is known of the edges
 pub mod Laws

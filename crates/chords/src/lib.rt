@@ -11,26 +11,32 @@
 //
 #![tactic(auto)]
 
-ghost use Rattle.std.specs.Prelude.{◌≡◌, true, ◌+◌, ◌*◌, ◌^◌, ◌<◌, ◌≤◌, length, pos};
+ghost use Rattle.std.specs.Prelude.{◌≡◌, ◌+◌, ◌*◌, ◌^◌, ◌<◌, ◌≤◌, cond, length};
 ghost use Rattle.integers.specs.Units.{most_points};
-ghost use Rattle.integers.specs.Within.{Within};
 ghost use Rattle.integers.specs.ListSum.{All};
 ghost use Rattle.curve.specs.Curve.{OnSheet};
 ghost use Rattle.accuracy.specs.Outline.{edge_between, edge_count};
-ghost use Rattle.placement.specs.Placed.{placeable, placed};
+ghost use Rattle.placement.specs.Coordinates.{coordinates};
 ghost use Rattle.rasterize.specs.Added.{added};
 ghost use Rattle.rasterize.specs.Ready.{Fits};
 ghost use Rattle.rasterize.specs.Views.{InView};
 ghost use Rattle.rasterize.specs.Laws.Sums.{edges_part};
 ghost use Rattle.chords.specs.declared.Side.TheVariants.{Curved};
-ghost use Rattle.chords.specs.Sides.{numbers_of, numbers, marked_contour, marked_contours};
+ghost use Rattle.chords.specs.Sides.{marked_contours};
 ghost use Rattle.chords.specs.Chords.{splits_of, chord_point, chords_of, contour_chords, outline_chords};
-ghost use Rattle.chords.specs.Inner.{curve_at, side_at, capped_chords};
+ghost use Rattle.chords.specs.Inner.{capped_chords};
+ghost use Rattle.chords.specs.Marked.{is_straight, side_by, contour_of};
 ghost use Rattle.chords.specs.Laws.SidesWithin.{SideWithin};
 
 use edge::Edge;
-use placement::{Placement, Point};
-use rasterize::View;
+use marked::{Mark, MarkedPoints};
+use placement::Point;
+use placement::points::PlacedPoints;
+use rasterize::Pass;
+use sides::Sides;
+
+pub mod marked;
+pub mod sides;
 
 // A quadratic Bézier curve: from (x0, y0) to (x1, y1), with the control point (cx, cy).
 #[derive(Clone, Copy)]
@@ -49,9 +55,6 @@ pub enum Side {
     Straight(Edge),
     Curved(Curve),
 }
-
-// The mark of a straight edge.
-const STRAIGHT: u8 = 0;
 
 // With no more edges than this, every grey is at most one from that of the exact area.
 const MOST_EDGES: usize = 1024;
@@ -106,173 +109,109 @@ fn chords_in(side: Side) -> usize
 }
 
 // Adds the chords of a curve.
-fn add_curve(table: &mut [i64], c: Curve, view: View, sign: i64, depth: usize)
-    requires { Fits table.old depth (length (chords_of (Curved c))) × All (InView view depth) (chords_of (Curved c)) × Within (pos 1) sign × SideWithin OnSheet (Curved c) }
-    ensures { table.new ≡ added table.old (edges_part view depth sign (chords_of (Curved c))) }
+fn add_curve(table: &mut [i64], c: Curve, pass: Pass)
+    requires { Fits table.old pass.depth (length (chords_of (Curved c))) × All (InView pass.view pass.depth) (chords_of (Curved c)) × SideWithin OnSheet (Curved c) }
+    ensures { table.new ≡ added table.old (edges_part pass.view pass.depth pass.sign (chords_of (Curved c))) }
 {
     let k = splits(c);
     for i in 0..curve::chords_at(k) {
-        rasterize::add_edge(table, chord(c, k, i), view, sign, depth);
+        rasterize::add_edge(table, chord(c, k, i), pass);
     }
 }
 
 // Adds a side.
-fn add_side(table: &mut [i64], side: Side, view: View, sign: i64, depth: usize)
-    requires { Fits table.old depth (length (chords_of side)) × All (InView view depth) (chords_of side) × Within (pos 1) sign × SideWithin OnSheet side }
-    ensures { table.new ≡ added table.old (edges_part view depth sign (chords_of side)) }
+fn add_side(table: &mut [i64], side: Side, pass: Pass)
+    requires { Fits table.old pass.depth (length (chords_of side)) × All (InView pass.view pass.depth) (chords_of side) × SideWithin OnSheet side }
+    ensures { table.new ≡ added table.old (edges_part pass.view pass.depth pass.sign (chords_of side)) }
 {
     match side {
-        Side::Straight(e) => rasterize::add_edge(table, e, view, sign, depth),
-        Side::Curved(c) => add_curve(table, c, view, sign, depth),
+        Side::Straight(e) => rasterize::add_edge(table, e, pass),
+        Side::Curved(c) => add_curve(table, c, pass),
     }
 }
 
 // ---- the sides of a contour
 
-// The curve that begins at point k of a contour's n points, as placed.
-fn curve_from(points: &[i64], placement: Placement, n: usize, k: usize) -> Curve
-    requires { (k + 1 < n) × (2 * n ≤ length points.now) × (placeable placement points.now ≡ true) }
-    ensures { result ≡ curve_at (placed placement points.now) n k }
+// The side with that mark that begins at the first of the points, and ends at `end`. A curve's control point is the second of them.
+fn side_to(points: &PlacedPoints, mark: Mark, end: Point) -> Side
+    requires { cond (is_straight mark) 2 4 ≤ length (coordinates points.now) }
+    ensures { result ≡ side_by (is_straight mark) (coordinates points.now) (record { x = end.x; y = end.y }) }
 {
-    let next = if k + 2 < n { k + 2 } else { 0 };
-    let from = placement::point_at(placement, points, k);
-    let control = placement::point_at(placement, points, k + 1);
-    let to = placement::point_at(placement, points, next);
-    Curve {
-        x0: from.x,
-        y0: from.y,
-        cx: control.x,
-        cy: control.y,
-        x1: to.x,
-        y1: to.y,
+    let from = points.point(0);
+    match mark {
+        Mark::Straight => Side::Straight(Edge {
+            x0: from.x,
+            y0: from.y,
+            x1: end.x,
+            y1: end.y,
+        }),
+        Mark::Curved => {
+            let control = points.point(1);
+            Side::Curved(Curve {
+                x0: from.x,
+                y0: from.y,
+                cx: control.x,
+                cy: control.y,
+                x1: end.x,
+                y1: end.y,
+            })
+        }
     }
-}
-
-// The side with that mark that begins at point k of a contour, as placed.
-fn side_from(points: &[i64], placement: Placement, mark: u8, k: usize) -> Side
-    requires { (2 * k + numbers_of mark ≤ length points.now) × (placeable placement points.now ≡ true) }
-    ensures { result ≡ side_at mark (placed placement points.now) k }
-{
-    let n = points.len() / 2;
-    if mark == STRAIGHT {
-        return Side::Straight(contours::edge_from(points, placement, n, k));
-    }
-    Side::Curved(curve_from(points, placement, n, k))
-}
-
-// How many points a side has of its own.
-fn points_in(mark: u8) -> usize
-    ensures { 2 * result ≡ numbers_of mark }
-{
-    if mark == STRAIGHT {
-        return 1;
-    }
-    2
 }
 
 // How many edges a contour is drawn as.
-pub fn chords_of(points: &[i64], marks: &[u8], placement: Placement) -> usize
-    requires { (length points.now ≡ numbers marks.now) × (length marks.now ≤ most_points) × All OnSheet (placed placement points.now) × (placeable placement points.now ≡ true) }
-    ensures { result ≡ length (contour_chords (marked_contour marks.now (placed placement points.now))) }
+pub fn chords_of(contour: &MarkedPoints) -> usize
+    requires { (length contour.now.marks.now ≤ most_points) × All OnSheet (coordinates contour.now.points) }
+    ensures { result ≡ length (contour_chords (contour_of contour.now)) }
 {
     let mut sum = 0;
-    let mut at = 0;
-    for k in 0..marks.len() {
-        let mark = marks[k];
-        sum += chords_in(side_from(points, placement, mark, at));
-        at += points_in(mark);
+    let mut sides = Sides::of(contour);
+    while let Some(side) = sides.next() {
+        sum += chords_in(side);
     }
     sum
 }
 
 // Adds the edges of a contour.
-pub fn add_contour(
-    table: &mut [i64],
-    points: &[i64],
-    marks: &[u8],
-    placement: Placement,
-    view: View,
-    sign: i64,
-    depth: usize,
-)
-    requires { Fits table.old depth (length (contour_chords (marked_contour marks.now (placed placement points.now)))) × All (InView view depth) (contour_chords (marked_contour marks.now (placed placement points.now))) × Within (pos 1) sign × (length points.now ≡ numbers marks.now) × All OnSheet (placed placement points.now) × (placeable placement points.now ≡ true) }
-    ensures { table.new ≡ added table.old (edges_part view depth sign (contour_chords (marked_contour marks.now (placed placement points.now)))) }
+pub fn add_contour(table: &mut [i64], contour: &MarkedPoints, pass: Pass)
+    requires { Fits table.old pass.depth (length (contour_chords (contour_of contour.now))) × All (InView pass.view pass.depth) (contour_chords (contour_of contour.now)) × All OnSheet (coordinates contour.now.points) }
+    ensures { table.new ≡ added table.old (edges_part pass.view pass.depth pass.sign (contour_chords (contour_of contour.now))) }
 {
-    let mut at = 0;
-    for k in 0..marks.len() {
-        let mark = marks[k];
-        let side = side_from(points, placement, mark, at);
-        add_side(table, side, view, sign, depth);
-        at += points_in(mark);
+    let mut sides = Sides::of(contour);
+    while let Some(side) = sides.next() {
+        add_side(table, side, pass);
     }
 }
 
 // ---- the contours of an outline
 
-// How many numbers the sides with these marks have.
-fn numbers_of(marks: &[u8]) -> usize
-    requires { numbers marks.now < 2 ^ 64 }
-    ensures { result ≡ numbers marks.now }
-{
-    let mut sum = 0;
-    for k in 0..marks.len() {
-        sum += 2 * points_in(marks[k]);
-    }
-    sum
-}
-
 // How many edges an outline is drawn as, or one more than the most where there are more: there may be any number of contours.
-pub fn outline_chords(points: &[i64], counts: &[u32], marks: &[u8], placement: Placement) -> usize
-    requires { (length points.now ≡ numbers marks.now) × (length marks.now ≡ edge_count counts.now) × All (λ n. n ≤ most_points) counts.now × All OnSheet (placed placement points.now) × (placeable placement points.now ≡ true) }
-    ensures { result ≡ capped_chords (marked_contours counts.now marks.now (placed placement points.now)) }
+pub fn outline_chords(outline: &MarkedPoints, counts: &[u32]) -> usize
+    requires { (length outline.now.marks.now ≡ edge_count counts.now) × All (λ n. n ≤ most_points) counts.now × All OnSheet (coordinates outline.now.points) }
+    ensures { result ≡ capped_chords (marked_contours counts.now outline.now.marks.now (coordinates outline.now.points)) }
 {
     let mut sum = 0;
-    let mut from = 0;
-    let mut start = 0;
-    let mut k = 0;
-    while k < counts.len() {
-        let upto = from + counts[k] as usize;
-        let end = start + numbers_of(&marks[from..upto]);
-        sum += chords_of(&points[start..end], &marks[from..upto], placement);
+    let mut left = *outline;
+    for &count in counts {
+        let (own, others) = left.split_at(count as usize);
+        sum += chords_of(&own);
         if sum > MOST_EDGES {
             return MOST_EDGES + 1;
         }
-        from = upto;
-        start = end;
-        k += 1;
+        left = others;
     }
     sum
 }
 
 // Adds the edges of an outline.
-pub fn add_outline(
-    table: &mut [i64],
-    points: &[i64],
-    counts: &[u32],
-    marks: &[u8],
-    placement: Placement,
-    view: View,
-    sign: i64,
-    depth: usize,
-)
-    requires { Fits table.old depth (length (outline_chords (marked_contours counts.now marks.now (placed placement points.now)))) × All (InView view depth) (outline_chords (marked_contours counts.now marks.now (placed placement points.now))) × Within (pos 1) sign × (length points.now ≡ numbers marks.now) × (length marks.now ≡ edge_count counts.now) × All OnSheet (placed placement points.now) × (placeable placement points.now ≡ true) }
-    ensures { table.new ≡ added table.old (edges_part view depth sign (outline_chords (marked_contours counts.now marks.now (placed placement points.now)))) }
+pub fn add_outline(table: &mut [i64], outline: &MarkedPoints, counts: &[u32], pass: Pass)
+    requires { Fits table.old pass.depth (length (outline_chords (marked_contours counts.now outline.now.marks.now (coordinates outline.now.points)))) × All (InView pass.view pass.depth) (outline_chords (marked_contours counts.now outline.now.marks.now (coordinates outline.now.points))) × (length outline.now.marks.now ≡ edge_count counts.now) × All OnSheet (coordinates outline.now.points) }
+    ensures { table.new ≡ added table.old (edges_part pass.view pass.depth pass.sign (outline_chords (marked_contours counts.now outline.now.marks.now (coordinates outline.now.points)))) }
 {
-    let mut from = 0;
-    let mut start = 0;
-    for k in 0..counts.len() {
-        let upto = from + counts[k] as usize;
-        let end = start + numbers_of(&marks[from..upto]);
-        add_contour(
-            table,
-            &points[start..end],
-            &marks[from..upto],
-            placement,
-            view,
-            sign,
-            depth,
-        );
-        from = upto;
-        start = end;
+    let mut left = *outline;
+    for &count in counts {
+        let (own, others) = left.split_at(count as usize);
+        add_contour(table, &own, pass);
+        left = others;
     }
 }

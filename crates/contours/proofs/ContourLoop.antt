@@ -5,6 +5,7 @@
 --   contour_start, contour_step, contour_end          none, some more, all
 --   contour_asks, contour_edge                        what the next edge asks for: room, and to be in view
 --   edges_one, contour_one                            what one edge adds
+--   once                                              with the sign 1 what is added is itself
 use mathlib.Core.Path.{◌≡◌, sym, ◌∙◌, ap, subst⁻¹}
 use mathlib.Core.List.{List, [], ◌∷◌}
 use Prim.Native.Nat.{ℕ, ◌+◌, ◌*◌, ◌-◌, ◌/◌, ◌<◌, ◌≤◌}
@@ -36,12 +37,11 @@ abbrev first_edges : View → ℕ → List ℤ → ℕ → ℕ → ℤ
 first_edges view depth points k i = Σ< k (edge_entry view depth points i)
 
 -- one edge
-pub edges_one : (view : View) (depth : ℕ) (points : List ℤ) (k i : ℕ) → edges_from view depth points k ((k + 1) - k) i ≡ edge_entry view depth points i k
+pub edges_one : (view : View) (depth : ℕ) (points : List ℤ) (k i : ℕ) → edges_from view depth points k 1 i ≡ edge_entry view depth points i k
 edges_one view depth points k i =
     let f : ℕ → ℤ = λ u. edge_entry view depth points i (k + u) in
-    let one : (k + 1) - k ≡ 1 = omega arith in
     let here : k + 0 ≡ k = omega arith in
-    ap (λ m. Σ< m f) one ∙ Σ-suc 0 f ∙ ap (λ z. z +ℤ f 0) (Σ-zero f) ∙ ring (f 0 ∷ []) (search read depth 40) tt ∙ ap (edge_entry view depth points i) here
+    Σ-suc 0 f ∙ ap (λ z. z +ℤ f 0) (Σ-zero f) ∙ ring (f 0 ∷ []) (search read depth 40) tt ∙ ap (edge_entry view depth points i) here
 
 -- `before` is the table before the first edge
 module _ (view : View) (depth : ℕ) (sign : ℤ) (points before : List ℤ) where
@@ -63,34 +63,32 @@ module _ {view : View} {depth : ℕ} (points : List ℤ) (on : All (InView view 
   contour_edge = subst⁻¹ (InView view depth) w (edge_of-has points (InView view depth) on k h)
 
 pub contour_one : (view : View) (depth : ℕ) (sign : ℤ) (points before : List ℤ) (k : ℕ) {e : Edge} {after : List ℤ} → e ≡ edge_of points (length points / 2) k
-    → after ≡ added before (λ i. sign *ℤ entry_of depth (part_table view depth e) i) → after ≡ added before (λ i. sign *ℤ edges_from view depth points k ((k + 1) - k) i)
+    → after ≡ added before (λ i. sign *ℤ entry_of depth (part_table view depth e) i) → after ≡ added before (λ i. sign *ℤ edges_from view depth points k 1 i)
 contour_one view depth sign points before k {e} w a =
-    a ∙ added_same before (λ i. sign *ℤ entry_of depth (part_table view depth e) i) (λ i. sign *ℤ edges_from view depth points k ((k + 1) - k) i)
+    a ∙ added_same before (λ i. sign *ℤ entry_of depth (part_table view depth e) i) (λ i. sign *ℤ edges_from view depth points k 1 i)
     (λ i q. ap (λ z. sign *ℤ z) (ap (λ d. entry_of depth (part_table view depth d) i) w ∙ sym (edges_one view depth points k i)))
 
--- from edge k to edge k'
-pub contour_step : {view : View} {depth : ℕ} {sign : ℤ} {points before table after : List ℤ} {k k' : ℕ} → All (InView view depth) (contour_edges (points_of points))
-    → Within (pos 1) sign → k ≤ k' → k' ≤ length points / 2 → ContourLoop view depth sign points before table k
-    → after ≡ added table (λ i. sign *ℤ edges_from view depth points k (k' - k) i) → ContourLoop view depth sign points before after k'
-contour_step {view} {depth} {sign} {points} {before} {table} {after} {k} {k'} on s h e l a = record {
+pub once : (t : List ℤ) (f : ℕ → ℤ) → added t (λ i. pos 1 *ℤ f i) ≡ added t f
+once t f = added_same t (λ i. pos 1 *ℤ f i) f (λ i h. ring (f i ∷ []) (search read depth 40) tt)
+
+-- m edges more
+pub contour_step : {view : View} {depth : ℕ} {sign : ℤ} {points before table after : List ℤ} {k : ℕ} (m : ℕ) → All (InView view depth) (contour_edges (points_of points))
+    → Within (pos 1) sign → k + m ≤ length points / 2 → ContourLoop view depth sign points before table k
+    → after ≡ added table (λ i. sign *ℤ edges_from view depth points k m i) → ContourLoop view depth sign points before after (k + m)
+contour_step {view} {depth} {sign} {points} {before} {table} {after} {k} m on s e l a = record {
   reached = e;
   has = a ∙ ap (λ t. added t (λ i. sign *ℤ these i)) l.has
-      ∙ added-signed before sign (first_edges view depth points k) these (first_edges view depth points k') (λ i q. more i);
-  fits = subst⁻¹ (λ t. Fits t depth (length points / 2 - k')) a
-      (fits-added (k' - k) (length points / 2 - k') (λ i. sign *ℤ these i) small (fits_le (omega arith) l.fits));
+      ∙ added-signed before sign (first_edges view depth points k) these (first_edges view depth points (k + m))
+      (λ i q. sym (Σ-split k m (edge_entry view depth points i)));
+  fits = subst⁻¹ (λ t. Fits t depth (length points / 2 - (k + m))) a
+      (fits-added m (length points / 2 - (k + m)) (λ i. sign *ℤ these i) small (fits_le (omega arith) l.fits));
 }
   where
     these : ℕ → ℤ
-    these i = edges_from view depth points k (k' - k) i
+    these i = edges_from view depth points k m i
 
-    more : (i : ℕ) → first_edges view depth points k i +ℤ these i ≡ first_edges view depth points k' i
-    more i =
-        let f = edge_entry view depth points i in
-        let all : k + (k' - k) ≡ k' = omega arith in
-        sym (Σ-split k (k' - k) f) ∙ ap (λ m. Σ< m f) all
-
-    small : (i : ℕ) → Within (pos ((k' - k) * detail_limit)) (sign *ℤ these i)
-    small i = signed_within s (Σ_within (k' - k) (λ u. edge_entry view depth points i (k + u))
+    small : (i : ℕ) → Within (pos (m * detail_limit)) (sign *ℤ these i)
+    small i = signed_within s (Σ_within m (λ u. edge_entry view depth points i (k + u))
         (λ u q. edge_entry_within (edge_of-has points (InView view depth) on (k + u) (omega arith)) i))
 
 pub contour_asks : {view : View} {depth : ℕ} {sign : ℤ} {points before table : List ℤ} {k : ℕ} → ContourLoop view depth sign points before table k → k < length points / 2

@@ -13,7 +13,7 @@ ghost use Rattle.edge.specs.Room.{Measured};
 ghost use Rattle.edge.specs.Nested.{OnRange, OnCell};
 ghost use Rattle.edge.specs.WalkOf.{Decides};
 ghost use Rattle.accuracy.specs.Outline.{points_of, point_at, contours_of, edge_count, contour_edges, outline_edges};
-ghost use Rattle.placement.specs.Placed.{placeable, placed};
+ghost use Rattle.placement.specs.Coordinates.{coordinates, point_count};
 ghost use Rattle.rasterize.specs.Added.{added, entry_of};
 ghost use Rattle.rasterize.specs.Ready.{Fits};
 ghost use Rattle.rasterize.specs.Views.{view_table, InView};
@@ -23,16 +23,17 @@ ghost use Rattle.contours.specs.Runs.{run_levels, widest_run, longest_run, trian
 ghost use Rattle.contours.specs.Laws.RunCells.{SmallEdge};
 
 use edge::{Details, Edge};
-use placement::Placement;
-use rasterize::{Spot, View};
+use placement::points::PlacedPoints;
+use rasterize::{Pass, Spot, View};
 
-// The edge from (x, y), which is point k of a contour's n points, as placed, to the next one; from the last, to the first.
-fn edge_to_next(points: &[i64], placement: Placement, n: usize, k: usize, x: i64, y: i64) -> Edge
-    requires { (k < n) × (2 * n ≤ length points.now) × (placeable placement points.now ≡ true) × (x ≡ (point_at (placed placement points.now) k).x) × (y ≡ (point_at (placed placement points.now) k).y) }
-    ensures { result ≡ edge_of (placed placement points.now) n k }
+// The edge from (x, y), which is point k as placed, to the next point; from the last, to the first.
+fn edge_to_next(points: &PlacedPoints, k: usize, x: i64, y: i64) -> Edge
+    requires { (k < point_count points.now) × (x ≡ (point_at (coordinates points.now) k).x) × (y ≡ (point_at (coordinates points.now) k).y) }
+    ensures { result ≡ edge_of (coordinates points.now) (point_count points.now) k }
 {
+    let n = points.count();
     let next = if k + 1 < n { k + 1 } else { 0 };
-    let to = placement::point_at(placement, points, next);
+    let to = points.point(next);
     Edge {
         x0: x,
         y0: y,
@@ -41,13 +42,13 @@ fn edge_to_next(points: &[i64], placement: Placement, n: usize, k: usize, x: i64
     }
 }
 
-// The edge from point k of a contour's n points, as placed, to the next one; from the last, to the first.
-pub fn edge_from(points: &[i64], placement: Placement, n: usize, k: usize) -> Edge
-    requires { (k < n) × (2 * n ≤ length points.now) × (placeable placement points.now ≡ true) }
-    ensures { result ≡ edge_of (placed placement points.now) n k }
+// The edge from point k of a contour, as placed, to the next point; from the last, to the first.
+pub fn edge_from(points: &PlacedPoints, k: usize) -> Edge
+    requires { k < point_count points.now }
+    ensures { result ≡ edge_of (coordinates points.now) (point_count points.now) k }
 {
-    let from = placement::point_at(placement, points, k);
-    edge_to_next(points, placement, n, k, from.x, from.y)
+    let from = points.point(k);
+    edge_to_next(points, k, from.x, from.y)
 }
 
 // ---- runs
@@ -109,8 +110,8 @@ fn cell_from(e: Edge, depth: usize) -> Spot
     requires { run_levels ≤ depth }
     ensures { result.level + run_levels ≡ depth }
 {
-    let x = integers::magnitude(e.x0) as usize;
-    let y = integers::magnitude(e.y0) as usize;
+    let x = e.x0.unsigned_abs() as usize;
+    let y = e.y0.unsigned_abs() as usize;
     Spot {
         level: depth - RUN_LEVELS,
         x: x / RUN_WIDTH as usize,
@@ -127,7 +128,8 @@ fn is_cell(c: Spot) -> bool
     c.x < across && c.y < across
 }
 
-// z, and in the second half -z. Any limit that keeps -z a number would do.
+// z, and in the second half -z. Any limit that keeps -z a number would do. A half is 0 or 1, the last bit of a cell's number, which is what the clauses count by:
+// a bool would have to be turned into that number in each of them.
 fn signed_in(z: i64, half: usize) -> i64
     requires { Within (pos (2 ^ 40)) z × (half < 2) }
     ensures { result ≡ half_sign half *ℤ z }
@@ -179,6 +181,7 @@ fn add_above(table: &mut [i64], e: Edge, area: i64, c: Spot, depth: usize)
     requires { AboveReady table.old e area depth c }
     ensures { table.new ≡ added table.old (above e area depth c.level c.x c.y) }
 {
+    // It goes from parent to parent, so that the level is counted down with the cell.
     let mut p = c;
     let mut w = RUN_WIDTH;
     while 0 < p.level {
@@ -195,36 +198,30 @@ fn add_above(table: &mut [i64], e: Edge, area: i64, c: Spot, depth: usize)
 // fetched and tested.
 fn add_along(
     table: &mut [i64],
-    points: &[i64],
-    placement: Placement,
-    n: usize,
+    points: &PlacedPoints,
     k: usize,
     first: Edge,
     c: Spot,
     depth: usize,
 ) -> Run
-    requires { RunReady table.old (placed placement points.now) depth k c × (n ≡ length points.now / 2) × (placeable placement points.now ≡ true) × (first ≡ edge_of (placed placement points.now) n k) }
-    ensures { Along depth (placed placement points.now) k c table.old table.new result × (k < result.next) }
+    requires { RunReady table.old (coordinates points.now) depth k c × (first ≡ edge_of (coordinates points.now) (point_count points.now) k) }
+    ensures { Along depth (coordinates points.now) k c table.old table.new result × (k < result.next) }
 {
-    let end = if n - k < LONGEST_RUN {
-        n
-    } else {
-        k + LONGEST_RUN
-    };
+    let end = k + (points.count() - k).min(LONGEST_RUN);
     let mut r = Run {
         next: k,
         x: first.x0,
         y: first.y0,
         sum: 0,
     };
-    while r.next < end {
-        let e = edge_to_next(points, placement, n, r.next, r.x, r.y);
+    for next in k..end {
+        let e = edge_to_next(points, next, r.x, r.y);
         if !is_on_cell(e.x1, e.y1, c) {
             return r;
         }
         rasterize::add_within(table, e, c, depth);
         r = Run {
-            next: r.next + 1,
+            next: next + 1,
             x: e.x1,
             y: e.y1,
             sum: r.sum + rasterize::root_term(e),
@@ -233,21 +230,19 @@ fn add_along(
     r
 }
 
-// Adds a run from edge k on, which is `first`. Answers the number of the next edge to add, n if there is none.
+// Adds a run from edge k on, which is `first`. Answers how many edges it has.
 fn add_run(
     table: &mut [i64],
-    points: &[i64],
-    placement: Placement,
-    n: usize,
+    points: &PlacedPoints,
     k: usize,
     first: Edge,
     c: Spot,
     depth: usize,
 ) -> usize
-    requires { RunReady table.old (placed placement points.now) depth k c × (n ≡ length points.now / 2) × (placeable placement points.now ≡ true) × (first ≡ edge_of (placed placement points.now) n k) }
-    ensures { (k < result) × (result ≤ n) × (table.new ≡ added table.old (edges_from Alone depth (placed placement points.now) k (result - k))) }
+    requires { RunReady table.old (coordinates points.now) depth k c × (first ≡ edge_of (coordinates points.now) (point_count points.now) k) }
+    ensures { (0 < result) × (k + result ≤ point_count points.now) × (table.new ≡ added table.old (edges_from Alone depth (coordinates points.now) k result)) }
 {
-    let r = add_along(table, points, placement, n, k, first, c, depth);
+    let r = add_along(table, points, k, first, c, depth);
     let chord = Edge {
         x0: first.x0,
         y0: first.y0,
@@ -256,99 +251,69 @@ fn add_run(
     };
     let area = r.sum - rasterize::root_term(chord);
     add_above(table, chord, area, c, depth);
-    r.next
+    r.next - k
 }
 
-// Adds a run from edge k on, or edge k alone where none begins. Answers the number of the next edge to add.
-fn add_some(
-    table: &mut [i64],
-    points: &[i64],
-    placement: Placement,
-    n: usize,
-    k: usize,
-    depth: usize,
-) -> usize
-    requires { NextReady Alone table.old (placed placement points.now) depth k × (run_levels ≤ depth) × (n ≡ length points.now / 2) × (placeable placement points.now ≡ true) }
-    ensures { (k < result) × (result ≤ n) × (table.new ≡ added table.old (edges_from Alone depth (placed placement points.now) k (result - k))) }
+// Adds a run from edge k on to a tile alone, or edge k where none begins. Answers how many edges it has added.
+fn add_some(table: &mut [i64], points: &PlacedPoints, k: usize, depth: usize) -> usize
+    requires { NextReady Alone table.old (coordinates points.now) depth k × (run_levels ≤ depth) }
+    ensures { (0 < result) × (k + result ≤ point_count points.now) × (table.new ≡ added table.old (edges_from Alone depth (coordinates points.now) k result)) }
 {
-    let e = edge_from(points, placement, n, k);
+    let e = edge_from(points, k);
     let c = cell_from(e, depth);
-    if is_cell(c) {
-        if lies_on_cell(e, c) {
-            return add_run(table, points, placement, n, k, e, c, depth);
-        }
+    if is_cell(c) && lies_on_cell(e, c) {
+        return add_run(table, points, k, e, c, depth);
     }
-    rasterize::add_edge(table, e, View::Alone, 1, depth);
-    k + 1
+    let pass = Pass {
+        view: View::Alone,
+        sign: 1,
+        depth,
+    };
+    rasterize::add_edge(table, e, pass);
+    1
+}
+
+// Adds a contour's edges to a tile alone, in runs.
+fn add_in_runs(table: &mut [i64], points: &PlacedPoints, depth: usize)
+    requires { Fits table.old depth (point_count points.now) × All (InView Alone depth) (contour_edges (points_of (coordinates points.now))) × (run_levels ≤ depth) }
+    ensures { table.new ≡ added table.old (entry_of depth (view_table Alone depth (contour_edges (points_of (coordinates points.now))))) }
+{
+    // Runs are of any length, so that no range has their first edges.
+    let mut k = 0;
+    while k < points.count() {
+        k += add_some(table, points, k, depth);
+    }
 }
 
 // Are a contour's edges added in runs? Those that are added to a tile alone are, where there are levels above the runs' cells.
-fn has_runs(view: View, sign: i64, depth: usize) -> bool
-    ensures { HasRuns result view sign depth }
+fn has_runs(pass: Pass) -> bool
+    ensures { HasRuns result pass.view pass.sign pass.depth }
 {
-    match view {
-        View::Alone => sign == 1 && RUN_LEVELS < depth,
-        View::From(_) => false,
-    }
-}
-
-// Adds edge k, and the edges after it if they are added in runs. Answers the number of the next edge to add.
-fn add_next(
-    table: &mut [i64],
-    points: &[i64],
-    placement: Placement,
-    view: View,
-    sign: i64,
-    depth: usize,
-    n: usize,
-    k: usize,
-) -> usize
-    requires { NextReady view table.old (placed placement points.now) depth k × (n ≡ length points.now / 2) × Within (pos 1) sign × (placeable placement points.now ≡ true) }
-    ensures { (k < result) × (result ≤ n) × (table.new ≡ added table.old (λ i. sign *ℤ edges_from view depth (placed placement points.now) k (result - k) i)) }
-{
-    if has_runs(view, sign, depth) {
-        return add_some(table, points, placement, n, k, depth);
-    }
-    rasterize::add_edge(table, edge_from(points, placement, n, k), view, sign, depth);
-    k + 1
+    matches!(pass.view, View::Alone) && pass.sign == 1 && RUN_LEVELS < pass.depth
 }
 
 // Adds the edges of a contour, given by its own points, as placed.
-pub fn add_contour(
-    table: &mut [i64],
-    points: &[i64],
-    placement: Placement,
-    view: View,
-    sign: i64,
-    depth: usize,
-)
-    requires { Fits table.old depth (length points.now / 2) × All (InView view depth) (contour_edges (points_of (placed placement points.now))) × Within (pos 1) sign × (placeable placement points.now ≡ true) }
-    ensures { table.new ≡ added table.old (λ i. sign *ℤ entry_of depth (view_table view depth (contour_edges (points_of (placed placement points.now)))) i) }
+pub fn add_contour(table: &mut [i64], points: &PlacedPoints, pass: Pass)
+    requires { Fits table.old pass.depth (point_count points.now) × All (InView pass.view pass.depth) (contour_edges (points_of (coordinates points.now))) }
+    ensures { table.new ≡ added table.old (λ i. pass.sign *ℤ entry_of pass.depth (view_table pass.view pass.depth (contour_edges (points_of (coordinates points.now)))) i) }
 {
-    let n = points.len() / 2;
-    let mut k = 0;
-    while k < n {
-        k = add_next(table, points, placement, view, sign, depth, n, k);
+    if has_runs(pass) {
+        return add_in_runs(table, points, pass.depth);
+    }
+    for k in 0..points.count() {
+        rasterize::add_edge(table, edge_from(points, k), pass);
     }
 }
 
 // Adds the contours of an outline, as placed: each begins at the point after the last one of the contour before.
-pub fn add_outline(
-    table: &mut [i64],
-    points: &[i64],
-    counts: &[u32],
-    placement: Placement,
-    view: View,
-    sign: i64,
-    depth: usize,
-)
-    requires { Fits table.old depth (edge_count counts.now) × (2 * edge_count counts.now ≤ length points.now) × All (InView view depth) (outline_edges (contours_of counts.now (placed placement points.now))) × Within (pos 1) sign × (placeable placement points.now ≡ true) }
-    ensures { table.new ≡ added table.old (λ i. sign *ℤ entry_of depth (view_table view depth (outline_edges (contours_of counts.now (placed placement points.now)))) i) }
+pub fn add_outline(table: &mut [i64], points: &PlacedPoints, counts: &[u32], pass: Pass)
+    requires { Fits table.old pass.depth (edge_count counts.now) × (2 * edge_count counts.now ≤ length (coordinates points.now)) × All (InView pass.view pass.depth) (outline_edges (contours_of counts.now (coordinates points.now))) }
+    ensures { table.new ≡ added table.old (λ i. pass.sign *ℤ entry_of pass.depth (view_table pass.view pass.depth (outline_edges (contours_of counts.now (coordinates points.now)))) i) }
 {
-    let mut start = 0;
-    for k in 0..counts.len() {
-        let end = start + 2 * counts[k] as usize;
-        add_contour(table, &points[start..end], placement, view, sign, depth);
-        start = end;
+    let mut left = *points;
+    for &count in counts {
+        let (own, others) = left.split_at(count as usize);
+        add_contour(table, &own, pass);
+        left = others;
     }
 }

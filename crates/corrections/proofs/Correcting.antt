@@ -5,7 +5,7 @@
 --   on_sheet, in_view            its coordinates are on a sheet; its edges are in the tile's view
 --   fits_contour, fits_again     there is room for them, and for taking them out again
 --   opposite-fits, back_within   the opposite of a sign is one
-use mathlib.Core.Path.{◌∙◌, subst}
+use mathlib.Core.Path.{◌≡◌, subst}
 use mathlib.Core.List.{List}
 use Prim.Native.Nat.{ℕ, ◌+◌, ◌*◌, ◌≤◌}
 use native.Mathlib.Omega.{arith}
@@ -21,15 +21,12 @@ use Rattle.integers.specs.ListSum.{All}
 use Rattle.integers.proofs.Theorems.ListSum.{all_map}
 use Rattle.edge.specs.declared.Edge.{Edge}
 use Rattle.curve.specs.Curve.{OnSheet}
-use Rattle.placement.specs.declared.Placement.{Placement}
-use Rattle.placement.specs.Placed.{placed}
-use Rattle.placement.proofs.Laws.PlacedPoints.{placed-length}
 use Rattle.rasterize.specs.Added.{added}
 use Rattle.rasterize.specs.Ready.{Fits}
 use Rattle.rasterize.specs.Views.{InView}
 use Rattle.rasterize.specs.Laws.Sums.{edges_part}
 use Rattle.rasterize.proofs.Laws.Fitting.{fits_le, fits_edges}
-use Rattle.chords.specs.Sides.{marked_contour}
+use Rattle.chords.specs.Sides.{numbers, MarkedContour}
 use Rattle.chords.specs.Chords.{contour_chords}
 use Rattle.chords.proofs.Laws.ClosedChords.{contour_on}
 use Rattle.tile.specs.Questions.{Yes, depth_of, question9}
@@ -46,27 +43,26 @@ use Rattle.corrections.specs.Amending.{Amendable}
 use Rattle.corrections.proofs.Laws.AskedContour.{sign_within, opposite, sign-opposite}
 
 -- ---- the contour
-module _ {site : Site} {change : Change} {points : List ℤ} {marks : List ℕ} {n : ℕ} {placement : Placement} {t : Tile}
-    (a : Amendable site change points marks n placement t) where
+module _ {site : Site} {change : Change} {contour : MarkedContour} {n : ℕ} {t : Tile} (a : Amendable site change contour n t) where
   abbrev drawn : List ℤ
-  drawn = placed placement points
+  drawn = contour.coordinates
 
   abbrev depth : ℕ
   depth = depth_of (tile_side site)
 
   abbrev pub amended_edges : List Edge
-  amended_edges = contour_chords (marked_contour marks drawn)
+  amended_edges = contour_chords contour
 
   pub on_sheet : All OnSheet drawn
   on_sheet =
       let wide : steps_per_pixel * reach site ≤ greatest_sheet_coordinate = omega (arith, reach-le site a.site_yes) in
       all_map (λ z h. (h.0, ≤ℤ_trans h.1 (pos-≤ℤ wide))) drawn ((question6_means (reach site) drawn).0 a.yes6)
 
-  pub in_view : All (InView (view_at site) depth) amended_edges
-  in_view =
+  pub in_view : length contour.coordinates ≡ numbers contour.marks → All (InView (view_at site) depth) amended_edges
+  in_view h =
       site_in_view site a.site_yes amended_edges
-      (contour_on (depth_of (reach site)) (marked_contour marks drawn)
-      (placed-length placement points ∙ a.points_length, on_side (reach site) drawn (reach_power site a.site_yes) a.yes6))
+      (contour_on (depth_of (reach site)) contour
+      (h, on_side (reach site) drawn (reach_power site a.site_yes) a.yes6))
 
   -- ---- room
   module _ (yes9 : Yes (question9 t.table)) where
@@ -77,8 +73,9 @@ module _ {site : Site} {change : Change} {points : List ℤ} {marks : List ℕ} 
     fits_contour = fits_le (omega arith) fits_twice
 
     -- with the contour's edges added
-    pub fits_again : Fits (added t.table (edges_part (view_at site) depth (sign_of change) amended_edges)) depth (length amended_edges)
-    fits_again = fits_edges (sign_within change) (view_at site) amended_edges (length amended_edges) in_view fits_twice
+    pub fits_again : length contour.coordinates ≡ numbers contour.marks
+        → Fits (added t.table (edges_part (view_at site) depth (sign_of change) amended_edges)) depth (length amended_edges)
+    fits_again h = fits_edges (sign_within change) (view_at site) amended_edges (length amended_edges) (in_view h) fits_twice
 
 -- ---- the sign
 pub back_within : (x : Change) → Within (pos 1) (pos 0 -ℤ sign_of x)

@@ -5,18 +5,17 @@
 --   left_by site change es table  the table that is left
 --   amend_questions               13, 9
 --   amend_refusal, amended        the number, and the tile afterwards
---   Amendable                     what the questions about the contour have answered, of a contour with marks
+--   Amendable                     what the questions about the contour have answered, of a contour with marks: that its placement may be used on its points, and that
+--                                 there are as many of these as its marks say, its type says
 -- Main results (the laws among them are in proofs/Theorems/Amending.antt)
 --   same_questions                what a call on a contour of points asks last are these
 use Rattle.std.specs.Prelude.{◌≡◌, List, [], ◌∷◌, ℕ, ◌+◌, ◌≤◌, length, get_or, ℤ, pos, ◌*ℤ◌}
 use Rattle.integers.specs.Units.{most_edges}
 use Rattle.edge.specs.declared.Edge.{Edge}
-use Rattle.placement.specs.declared.Placement.{Placement}
-use Rattle.placement.specs.Placed.{placed}
 use Rattle.rasterize.specs.Added.{added}
-use Rattle.chords.specs.Sides.{numbers, marked_contour}
+use Rattle.chords.specs.Sides.{MarkedContour}
 use Rattle.chords.specs.Chords.{contour_chords}
-use Rattle.tile.specs.Questions.{Question, Yes, first_no, question2, question6, question12}
+use Rattle.tile.specs.Questions.{Question, Yes, first_no, question2, question6}
 use Rattle.tile.specs.Outcomes.{if_done}
 use Rattle.sheet.specs.declared.Site.{Site}
 use Rattle.sheet.specs.Sites.{tile_side, reach, SiteYes, entries_at}
@@ -37,11 +36,9 @@ abbrev pub amended : Site → Change → List Edge → ℕ → Tile → Tile
 amended site change es n t =
     if_done (amend_refusal site change es n t) (tile_of (left_by site change es t.table) (edges_after change n t.edges)) t
 
-pub record Amendable (site : Site) (change : Change) (points : List ℤ) (marks : List ℕ) (n : ℕ) (placement : Placement) (t : Tile) : Type 0 where
+pub record Amendable (site : Site) (change : Change) (contour : MarkedContour) (n : ℕ) (t : Tile) : Type 0 where
   pub site_yes : SiteYes site
   pub yes2 : Yes (question2 (tile_side site) t.table)
-  pub points_length : length points ≡ numbers marks
-  pub yes12 : Yes (question12 placement points)
-  pub yes6 : Yes (question6 (reach site) (placed placement points))
-  pub counted : n ≡ length (contour_chords (marked_contour marks (placed placement points)))
+  pub yes6 : Yes (question6 (reach site) contour.coordinates)
+  pub counted : n ≡ length (contour_chords contour)
   pub few : already_in change t.edges + n ≤ most_edges

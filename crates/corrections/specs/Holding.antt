@@ -16,7 +16,7 @@
 use Rattle.std.specs.Prelude.{◌≡◌, ℕ, ◌*◌, length, replicate, ℤ, pos}
 use mathlib.Core.List.{List, ◌∷◌, Perm}
 use Rattle.accuracy.specs.Outline.{outline_edges}
-use Rattle.tile.specs.declared.Built.{Built}
+use Rattle.tile.specs.Answers.{Built}
 use Rattle.tile.specs.Faithful.{FaithfulTo}
 use Rattle.tile.specs.Written.{Contour, coordinates, counts_of}
 use Rattle.sheet.specs.declared.Site.{Site}

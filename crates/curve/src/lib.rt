@@ -4,12 +4,11 @@
 // by a quarter of bend / 4^k, the bend being p − 2 q + r: so k is the least number that makes this one step or less, in x and in y.
 #![tactic(auto)]
 
-ghost use Rattle.std.specs.Prelude.{◌≡◌, ◌^◌, ◌≤◌, pos, nat_abs, neg_ℤ, ◌*ℤ◌, ◌&&◌, ◌≤ℤ◌, ◌<ℤ◌};
-ghost use Rattle.integers.specs.Tests.{between};
+ghost use Rattle.std.specs.Prelude.{◌≡◌, ◌^◌, ◌≤◌, pos, nat_abs, ◌*ℤ◌, ◌&&◌, ◌≤ℤ◌, ◌<ℤ◌};
 ghost use Rattle.integers.specs.Rounding.{round_half_up};
 ghost use Rattle.integers.specs.Within.{Within};
-ghost use Rattle.integers.specs.Units.{greatest_sheet_coordinate, most_splits, most_chords};
-ghost use Rattle.curve.specs.Curve.{OnSheet, bend as bend_of, bend_limit, curve_num, splits, chord_end};
+ghost use Rattle.integers.specs.Units.{most_splits, most_chords};
+ghost use Rattle.curve.specs.Curve.{OnSheet, bend as bend_of, curve_num, flat, splits, chord_end};
 
 // 2^7 chords are enough for every curve on the greatest sheet.
 const MOST_SPLITS: usize = 7;
@@ -25,30 +24,6 @@ pub fn bend(p: i64, q: i64, r: i64) -> i64
     p - 2 * q + r
 }
 
-// Are both at most `limit` in magnitude?
-fn are_within(u: i64, v: i64, limit: i64) -> bool
-    requires { Within (pos (bend_limit most_splits)) limit }
-    ensures { result ≡ (between (neg_ℤ limit) limit u && between (neg_ℤ limit) limit v) }
-{
-    integers::is_within(u, -limit, limit) && integers::is_within(v, -limit, limit)
-}
-
-// k, for a curve with the bends u across and v down: the least from 0 to 7 for which neither exceeds 4 × 4^k.
-pub fn splits_of(u: i64, v: i64) -> usize
-    ensures { result ≡ splits u v }
-{
-    let mut k = 0;
-    let mut limit = BEND_OF_ONE_CHORD;
-    while k < MOST_SPLITS {
-        if are_within(u, v, limit) {
-            return k;
-        }
-        k += 1;
-        limit = 4 * limit;
-    }
-    k
-}
-
 // How many chords k splits make.
 pub fn chords_at(k: usize) -> usize
     requires { k ≤ most_splits }
@@ -57,15 +32,64 @@ pub fn chords_at(k: usize) -> usize
     1usize << k
 }
 
-// n² times where the curve is at the parameter i / n.
-fn curve_num(p: i64, q: i64, r: i64, n: i64, i: i64) -> i64
-    requires { Within (pos greatest_sheet_coordinate) p × Within (pos greatest_sheet_coordinate) q × Within (pos greatest_sheet_coordinate) r × Within (pos most_chords) n × Within (pos most_chords) i }
-    ensures { result ≡ curve_num p q r n i }
+// Is a bend so small that 2^k chords do? It is at most 4 × 4^k in magnitude.
+fn is_flat(z: i64, k: usize) -> bool
+    requires { k ≤ most_splits }
+    ensures { result ≡ flat k z }
 {
-    let j = n - i;
-    let first = j * j * p;
-    let middle = 2 * i * j * q;
-    first + middle + i * i * r
+    let n = chords_at(k) as i64;
+    let limit = BEND_OF_ONE_CHORD * (n * n);
+    integers::is_within(z, -limit, limit)
+}
+
+// Are both bends?
+fn are_flat(u: i64, v: i64, k: usize) -> bool
+    requires { k ≤ most_splits }
+    ensures { result ≡ (flat k u && flat k v) }
+{
+    is_flat(u, k) && is_flat(v, k)
+}
+
+// k, for a curve with the bends u across and v down: the least from 0 to 7 for which neither exceeds 4 × 4^k.
+pub fn splits_of(u: i64, v: i64) -> usize
+    ensures { result ≡ splits u v }
+{
+    for k in 0..MOST_SPLITS {
+        if are_flat(u, v, k) {
+            return k;
+        }
+    }
+    MOST_SPLITS
+}
+
+// One coordinate of a curve on a sheet: those of its ends, p and r, and that of its control point, q.
+#[derive(Clone, Copy)]
+struct Points {
+    p: i64,
+    q: i64,
+    r: i64,
+    ghost on_sheet: { OnSheet p × OnSheet q × OnSheet r },
+}
+
+impl Points {
+    // n² times where the curve is at the parameter i / n.
+    fn num(self, n: i64, i: i64) -> i64
+        requires { Within (pos most_chords) n × Within (pos most_chords) i }
+        ensures { result ≡ curve_num self.p self.q self.r n i }
+    {
+        let j = n - i;
+        let first = j * j * self.p;
+        let middle = 2 * i * j * self.q;
+        first + middle + i * i * self.r
+    }
+
+    // Where the curve is at the parameter i / n, rounded to the nearest step, halves towards the larger.
+    fn at(self, n: i64, i: i64) -> i64
+        requires { (pos 1 ≤ℤ n) × (n ≤ℤ pos most_chords) × (pos 0 ≤ℤ i) × (i ≤ℤ n) }
+        ensures { result ≡ round_half_up (curve_num self.p self.q self.r n i) (nat_abs (n *ℤ n)) }
+    {
+        round_half_up(self.num(n, i), n * n)
+    }
 }
 
 // n / d to the nearest whole number, halves up, for n that is not negative.
@@ -76,18 +100,10 @@ fn round_half_up(n: i64, d: i64) -> i64
     (2 * n + d) / (2 * d)
 }
 
-// Where the curve is at the parameter i / n, rounded to the nearest step, halves towards the larger.
-fn step_at(p: i64, q: i64, r: i64, n: i64, i: i64) -> i64
-    requires { OnSheet p × OnSheet q × OnSheet r × (pos 1 ≤ℤ n) × (n ≤ℤ pos most_chords) × (pos 0 ≤ℤ i) × (i ≤ℤ n) }
-    ensures { result ≡ round_half_up (curve_num p q r n i) (nat_abs (n *ℤ n)) }
-{
-    round_half_up(curve_num(p, q, r, n, i), n * n)
-}
-
 // End i of the 2^k chords.
 pub fn chord_end(p: i64, q: i64, r: i64, k: usize, i: usize) -> i64
     requires { OnSheet p × OnSheet q × OnSheet r × (k ≤ most_splits) × (i ≤ 2 ^ k) }
     ensures { result ≡ chord_end p q r k i }
 {
-    step_at(p, q, r, chords_at(k) as i64, i as i64)
+    Points { p, q, r }.at(chords_at(k) as i64, i as i64)
 }

@@ -1,21 +1,17 @@
 -- What building an outline with marks answers, and what the table holds afterwards, for every input. "Edge counts and closeness are then those of the chords."
 --
 -- Definitions
---   refusal n                     a refusal, which carries no edge
 --   marked_result                 what the questions about the outline answer: the number, and the edges where it is 0
 --   curves_refusal, curves_result,
 --   curves_table                  the number; the number and the edge count; the table afterwards
 use Rattle.std.specs.Prelude.{List, ℕ, length, ℤ}
 use Rattle.placement.specs.declared.Placement.{Placement}
-use Rattle.tile.specs.declared.Built.{Built}
+use Rattle.tile.specs.Answers.{Built}
 use Rattle.tile.specs.Questions.{first_no}
 use Rattle.tile.specs.Outcomes.{if_done}
 use Rattle.sheet.specs.declared.Site.{Site}
 use Rattle.sheet.specs.Sites.{entries_at}
 use Rattle.curves.specs.MarkedQuestions.{edges_marked, marked_questions, curve_questions}
-
-abbrev pub refusal : ℕ → Built
-refusal n = record { number = n; edges = 0 }
 
 abbrev pub marked_result : ℕ → List ℤ → List ℕ → List ℕ → Placement → ℕ → Built
 marked_result reach points counts marks placement already = record {

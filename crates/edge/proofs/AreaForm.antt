@@ -12,12 +12,11 @@ use Rattle.integers.specs.Rounding.{round_half_away}
 use Rattle.edge.specs.declared.Axis.{Axis}
 use Rattle.edge.specs.declared.Cell.{Cell}
 use Rattle.edge.specs.declared.Samples.{Samples}
-use Rattle.edge.specs.declared.Walk.{Walk}
 use Rattle.edge.specs.Integrals.{area_on}
 use Rattle.edge.specs.Rounded.{rounded_area}
 use Rattle.edge.specs.Cuts.{rows, side_cuts}
 use Rattle.edge.specs.Code.{SamplesClosed, piece_sum, beyond_at, held_at, area_at}
-use Rattle.edge.specs.WalkOf.{IsWalk}
+use Rattle.edge.specs.WalkOf.{Course, IsWalk}
 use Rattle.edge.proofs.Lemmas.Ends.{Steady}
 use Rattle.edge.proofs.Lemmas.Runs.{Ordered}
 use Rattle.edge.proofs.Laws.ClosedArea.{area_no_rows, rows-closed, side_ordered, area_closed}
@@ -41,7 +40,7 @@ module _ (c : Cell) (w≥0 : pos 0 ≤ℤ c.width) where
     area_at_lem = ap (piece_sum (held_at (a.scale *ℤ c.width) (beyond_at a c.left k))) (past_samples in_rows.y) ∙ sym (area_closed a b sa sb c w≥0 n some)
 
   -- ---- of an edge
-  module _ {w : Walk} (walk : IsWalk w) where
+  module _ {w : Course} (walk : IsWalk w) where
     pub no_area : (rows w.y c w.steps).last ≤ℤ (rows w.y c w.steps).first → rounded_area w.edge c ≡ pos 0
     no_area none =
         sym (walk_area walk c w≥0)

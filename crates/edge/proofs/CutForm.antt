@@ -21,13 +21,12 @@ use Rattle.integers.proofs.Theorems.Tent.{tent-inside}
 use Rattle.edge.specs.declared.Axis.{Axis}
 use Rattle.edge.specs.declared.Cell.{Cell}
 use Rattle.edge.specs.declared.Samples.{Samples}
-use Rattle.edge.specs.declared.Walk.{Walk}
 use Rattle.edge.specs.Walk.{beyond, past, near}
 use Rattle.edge.specs.Integrals.{along}
 use Rattle.edge.specs.Rounded.{details}
 use Rattle.edge.specs.Code.{Closed, SamplesWithin, SamplesClosed, beyond_at, near_at, piece_sum, numerators_at, rounded_by}
 use Rattle.edge.specs.Cuts.{span, cuts}
-use Rattle.edge.specs.WalkOf.{IsWalk}
+use Rattle.edge.specs.WalkOf.{Course, IsWalk}
 use Rattle.edge.proofs.Lemmas.Ends.{Steady}
 use Rattle.edge.proofs.Lemmas.Records.{samples_eq, details-eq}
 use Rattle.edge.proofs.Lemmas.Runs.{Ordered}
@@ -112,7 +111,7 @@ module _ (c : Cell) (half : ℤ) (even : c.width ≡ half +ℤ half) (hh : pos 0
     numerators_at_lem = details-eq h_at v_at d_at
 
   -- ---- of an edge
-  module _ {w : Walk} (walk : IsWalk w) (inside : (span w.x w.y c w.steps).first <ℤ (span w.x w.y c w.steps).last) where
+  module _ {w : Course} (walk : IsWalk w) (inside : (span w.x w.y c w.steps).first <ℤ (span w.x w.y c w.steps).last) where
     pub cuts_in_cell : InCell w.x w.y c w.steps (cuts w.x w.y c half w.steps)
     cuts_in_cell = every-walk (λ a b n. (span a b c n).first <ℤ (span a b c n).last → InCell a b c n (cuts a b c half n)) in_cell walk inside
 

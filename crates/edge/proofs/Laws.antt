@@ -29,8 +29,11 @@ pub mod Reversal
 pub mod ClosedForm
 pub mod ClosedDetails
 pub mod ClosedArea
--- the walk that `walk_of` answers comes inside where its edge does
+-- what the methods of numbers answer, by the definitions here
+pub mod Methods
+-- a walk comes inside where its edge does; what the type says of it
 pub mod WalkInside
+pub mod WalkKnown
 -- cells in cells, and the room that an edge has in each
 pub mod Cells
 -- an edge in one quarter: whole values

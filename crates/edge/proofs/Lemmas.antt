@@ -2,6 +2,8 @@
 
 -- records with equal fields; spans and cuts of equal numbers
 pub mod Records
+-- one direction across a cell, by equal numbers
+pub mod CrossedCells
 -- signs and extents, both ends of a walk
 pub mod Ends
 -- a step between two sides, or outside of them

@@ -9,7 +9,7 @@
 use mathlib.Core.Path.{◌≡◌, ◌∙◌, ap}
 use mathlib.Core.List.{[], ◌∷◌}
 use Prim.Native.Nat.{◌<◌, ◌^◌}
-use lib.IntN.{ℤ, pos, ◌-ℤ◌}
+use lib.IntN.{ℤ, pos, nat_abs, ◌-ℤ◌}
 use lib.Signed.{◌≤ℤ◌, mag}
 use Rattle.integers.proofs.Theorems.Order.{nonneg, positive, add_one_≤ℤ, ≤ℤ-mul}
 use Rattle.integers.proofs.Theorems.Linear.{le, eq, ◌&◌, none!, linear, lin≤}
@@ -38,7 +38,8 @@ difference p q = held_sub (coordinate q) (coordinate p)
 pub extent_within : (d : ℤ) → Within (pos extent_limit) d → Within (pos extent_limit) (pos (extent d))
 extent_within d w = within_le (extent_at_most d (lin≤ [] none! (search linear depth 40) tt) w) (within_self (nonneg (extent d)))
 
-pub magnitude : {z r : ℤ} → Within (pos extent_limit) z → mag r < 2 ^ 63 → r ≡ abs (back z) → Held extent_limit (back r) (abs z)
+pub magnitude : {z r : ℤ} → Within (pos extent_limit) z → mag r < 2 ^ 63 → r ≡ pos (nat_abs (back z)) → Held extent_limit (back r) (abs z)
+unfolding abs
 magnitude {z} w k e = record { is = result_is k (e ∙ ap abs (back_is tt w)); within = within_le (abs_of_within w) (within_self (abs-nonneg z)) }
 
 -- ---- a cell

@@ -22,14 +22,13 @@ use Rattle.integers.specs.Within.{Within}
 use Rattle.integers.proofs.Theorems.Within.{within_le, within_mul, within_self}
 use Rattle.edge.specs.declared.Axis.{Axis}
 use Rattle.edge.specs.declared.Cell.{Cell}
-use Rattle.edge.specs.declared.Walk.{Walk}
 use Rattle.edge.specs.Walk.{extent, sign, dx, dy}
 use Rattle.edge.proofs.Laws.StepCount.{steps_pos}
 use Rattle.edge.proofs.Lemmas.Ends.{direction, direction_within}
 use Rattle.edge.specs.Octilinear.{unit_steps}
 use Rattle.edge.specs.Room.{coordinate_limit, extent_limit, crossing_limit, Measured, Room}
 use Rattle.edge.specs.Code.{AxisRoom}
-use Rattle.edge.specs.WalkOf.{IsWalk, fine, unit}
+use Rattle.edge.specs.WalkOf.{Course, IsWalk, fine, unit}
 use Rattle.integers.specs.Bits.{back}
 use Rattle.integers.proofs.Theorems.Bits.{back_is, fits_within}
 use Rattle.edge.proofs.Sizes.{difference, extent_within, width≥0, width_high, width_within}
@@ -63,13 +62,13 @@ fine_room d {u} {v} i j k l h p = record {
   wide = p;
 }
 
-pub x_room : {w : Walk} {c : Cell} → IsWalk w → Room w.edge c → AxisRoom w.x c.left c.width
-x_room {w} {c} (fine o e) r = subst⁻¹ (λ (z : Walk). AxisRoom z.x c.left c.width) e (fine_room (dx w.edge) r.edge.y0 r.edge.y1 r.edge.x0 r.left (width≥0 r) r.tall)
-x_room {w} {c} (unit s e) r = subst⁻¹ (λ (z : Walk). AxisRoom z.x c.left c.width) e (unit_room (dx w.edge) r.edge.x0 r.left (width≥0 r) (width_high r))
+pub x_room : {w : Course} {c : Cell} → IsWalk w → Room w.edge c → AxisRoom w.x c.left c.width
+x_room {w} {c} (fine o e) r = subst⁻¹ (λ (z : Course). AxisRoom z.x c.left c.width) e (fine_room (dx w.edge) r.edge.y0 r.edge.y1 r.edge.x0 r.left (width≥0 r) r.tall)
+x_room {w} {c} (unit s e) r = subst⁻¹ (λ (z : Course). AxisRoom z.x c.left c.width) e (unit_room (dx w.edge) r.edge.x0 r.left (width≥0 r) (width_high r))
 
-pub y_room : {w : Walk} {c : Cell} → IsWalk w → Room w.edge c → AxisRoom w.y c.top c.width
-y_room {w} {c} (fine o e) r = subst⁻¹ (λ (z : Walk). AxisRoom z.y c.top c.width) e (fine_room (dy w.edge) r.edge.x0 r.edge.x1 r.edge.y0 r.top (width≥0 r) r.wide)
-y_room {w} {c} (unit s e) r = subst⁻¹ (λ (z : Walk). AxisRoom z.y c.top c.width) e (unit_room (dy w.edge) r.edge.y0 r.top (width≥0 r) (width_high r))
+pub y_room : {w : Course} {c : Cell} → IsWalk w → Room w.edge c → AxisRoom w.y c.top c.width
+y_room {w} {c} (fine o e) r = subst⁻¹ (λ (z : Course). AxisRoom z.y c.top c.width) e (fine_room (dy w.edge) r.edge.x0 r.edge.x1 r.edge.y0 r.top (width≥0 r) r.wide)
+y_room {w} {c} (unit s e) r = subst⁻¹ (λ (z : Course). AxisRoom z.y c.top c.width) e (unit_room (dy w.edge) r.edge.y0 r.top (width≥0 r) (width_high r))
 
 pub narrower_room : {a : Axis} {side w v : ℤ} → pos 0 ≤ℤ v → v ≤ℤ w → AxisRoom a side w → AxisRoom a side v
 narrower_room {a} {w = w} {v} h k r = record {
@@ -88,7 +87,7 @@ half_room {w = w} {half} e h r = narrower_room h (lin≤ (half ∷ w ∷ []) (eq
 pub back-room : {a : Axis} {side w : ℤ} → SFits w64 side → SFits w64 w → AxisRoom a side w → AxisRoom a (back side) (back w)
 back-room {a} {side} {w} f g r = subst⁻¹ (λ z. AxisRoom a z (back w)) (to_z-of_z f) (subst⁻¹ (AxisRoom a side) (to_z-of_z g) r)
 
-module _ {w : Walk} {c : Cell} (k : IsWalk w) (r : Room w.edge c) where
+module _ {w : Course} {c : Cell} (k : IsWalk w) (r : Room w.edge c) where
   pub x_room-back : AxisRoom w.x (back c.left) (back c.width)
   x_room-back = back-room (fits_within tt r.left) (fits_within tt (width_within r)) (x_room k r)
 
@@ -103,22 +102,22 @@ module _ {w : Walk} {c : Cell} (k : IsWalk w) (r : Room w.edge c) where
 pub ruleset rooms = (x_room-back, y_room-back, x_side_back)
 
 -- ---- the steps
-pub steps_within : {w : Walk} → IsWalk w → Measured w.edge → Within (pos crossing_limit) w.steps
+pub steps_within : {w : Course} → IsWalk w → Measured w.edge → Within (pos crossing_limit) w.steps
 steps_within {w} (fine o e) m =
-    subst⁻¹ (λ (z : Walk). Within (pos crossing_limit) z.steps) e
+    subst⁻¹ (λ (z : Course). Within (pos crossing_limit) z.steps) e
     (within_le (lin≤ [] none! (search linear depth 40) tt) (within_mul (extent-range m.x0 m.x1) (extent-range m.y0 m.y1)))
 steps_within {w} (unit s e) m =
-    subst⁻¹ (λ (z : Walk). Within (pos crossing_limit) z.steps) e
+    subst⁻¹ (λ (z : Course). Within (pos crossing_limit) z.steps) e
     (within_le (≤ℤ_trans (pos-≤ℤ (max-le (≤_of_pos (extent-range m.x0 m.x1).high) (≤_of_pos (extent-range m.y0 m.y1).high))) (lin≤ [] none! (search linear depth 40) tt))
     (within_self (nonneg (unit_steps w.edge))))
 
-pub divisor_pos : {w : Walk} → IsWalk w → pos 0 <ℤ w.divisor
-divisor_pos {w} (fine o e) = subst⁻¹ (λ (z : Walk). pos 0 <ℤ z.divisor) e (positive (steps_pos w.edge))
-divisor_pos {w} (unit s e) = subst⁻¹ (λ (z : Walk). pos 0 <ℤ z.divisor) e (positive {n = 1} (omega arith))
+pub divisor_pos : {w : Course} → IsWalk w → pos 0 <ℤ w.divisor
+divisor_pos {w} (fine o e) = subst⁻¹ (λ (z : Course). pos 0 <ℤ z.divisor) e (positive (steps_pos w.edge))
+divisor_pos {w} (unit s e) = subst⁻¹ (λ (z : Course). pos 0 <ℤ z.divisor) e (positive {n = 1} (omega arith))
 
-pub divisor_within : {w : Walk} → IsWalk w → Measured w.edge → Within (pos crossing_limit) w.divisor
+pub divisor_within : {w : Course} → IsWalk w → Measured w.edge → Within (pos crossing_limit) w.divisor
 divisor_within {w} (fine o e) m =
-    let same : w.divisor ≡ w.steps = ap (λ (z : Walk). z.divisor) e ∙ sym (ap (λ (z : Walk). z.steps) e) in
+    let same : w.divisor ≡ w.steps = ap (λ (z : Course). z.divisor) e ∙ sym (ap (λ (z : Course). z.steps) e) in
     subst⁻¹ (Within (pos crossing_limit)) same (steps_within (fine o e) m)
 divisor_within {w} (unit s e) m =
-    subst⁻¹ (λ (z : Walk). Within (pos crossing_limit) z.divisor) e (within_le (lin≤ [] none! (search linear depth 40) tt) (within_self (nonneg 1)))
+    subst⁻¹ (λ (z : Course). Within (pos crossing_limit) z.divisor) e (within_le (lin≤ [] none! (search linear depth 40) tt) (within_self (nonneg 1)))

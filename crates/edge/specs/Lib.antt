@@ -16,8 +16,9 @@ pub mod Octilinear
 pub mod Room
 -- a cell's quarters, cells in cells, edges in cells; both as seen from elsewhere
 pub mod Nested
--- the walk that `walk_of` answers, and yes or no
+-- what every `Walk` is, and yes or no; a walk's numbers alone
 pub mod WalkOf
+pub mod CourseOf
 -- the steps inside a cell, and where its middles cut them; those in its rows, and where its sides cut them
 pub mod Cuts
 -- what the functions below the public ones ask and answer

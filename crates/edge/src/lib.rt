@@ -35,18 +35,20 @@ ghost use Rattle.std.specs.Prelude.{◌≡◌, ◌⊎◌, ◌<◌, pos, nat_abs,
 ghost use Rattle.integers.specs.Rounding.{round_half_away};
 ghost use Rattle.integers.specs.Units.{width_times_extent_limit};
 ghost use Rattle.integers.specs.Within.{Within};
-ghost use Rattle.integers.specs.Magnitude.{abs as abs_of};
 ghost use Rattle.integers.specs.MinMax.{min, max};
 ghost use Rattle.integers.specs.Clamp.{clamp};
-ghost use Rattle.edge.specs.Walk.{extent as extent_of, sign as sign_of, dx, dy, ax as ax_of, ay as ay_of};
+ghost use Rattle.edge.specs.Walk.{extent as extent_of, sign as sign_of, dx, dy, ax as ax_of, ay as ay_of, beyond as beyond_side};
 ghost use Rattle.edge.specs.Inside.{Inside};
 ghost use Rattle.edge.specs.Rounded.{details as details_of, rounded_area};
 ghost use Rattle.edge.specs.Cuts.{strip as strip_steps, strip_of, meet as meet_of, span as span_of, to_middle, cuts_at, rows};
 ghost use Rattle.edge.specs.Room.{coordinate_limit, extent_limit, crossing_limit, Measured, Even, Room};
-ghost use Rattle.edge.specs.Code.{AxisRoom, SamplesWithin, half_with, before_half, quarter_details, SamplesClosed, beyond_at, near_at, piece_sum, numerators_at, rounded_by, held_at, area_at};
+ghost use Rattle.edge.specs.Code.{AxisRoom, SamplesWithin, SamplesClosed, beyond_at, near_at, piece_sum, numerators_of, rounded_by, held_at};
 ghost use Rattle.edge.specs.WalkOf.{IsWalk, Decides};
 
+mod quarter;
+
 use integers::div_round_half_away;
+pub use quarter::{before_half, half_with, lies_in_half, quarter_details};
 
 // From (x0, y0) to (x1, y1).
 #[derive(Clone, Copy)]
@@ -82,7 +84,9 @@ pub struct Axis {
     pub sign: i64,
 }
 
-// An edge and its walk in `steps` steps. The sums along it are `divisor` times the values.
+// An edge and its walk in `steps` steps. The sums along it are `divisor` times the values. What it is by `IsWalk`, it is in every value of the type.
+// `Room`, which is asked of a walk and a cell together, stays in the contracts: one struct of both and of the steps inside took `add_node` of `rasterize` 1.02 to
+// 1.06 times the instructions.
 #[derive(Clone, Copy)]
 pub struct Walk {
     pub edge: Edge,
@@ -90,6 +94,16 @@ pub struct Walk {
     pub y: Axis,
     pub steps: i64,
     pub divisor: i64,
+    pub ghost is_walk: { ∥ IsWalk (record { edge = edge; x = x; y = y; steps = steps; divisor = divisor }) ∥₁ },
+}
+
+// One direction of a walk across a cell: from a side on to the one `width` farther on. What is formed of its numbers stays in range.
+#[derive(Clone, Copy)]
+pub struct Across {
+    pub axis: Axis,
+    pub side: i64,
+    pub width: i64,
+    pub ghost room: { AxisRoom axis side width },
 }
 
 // The steps t with first <= t < last: none, where first is not below last.
@@ -99,7 +113,8 @@ pub struct Span {
     pub last: i64,
 }
 
-// A number at each of the four cuts: the first step, two middles in their order, the last step; or those steps.
+// A number at each of the four cuts: the first step, two middles in their order, the last step; or those steps. By name and not in an array, as `cuts_at` and
+// `SamplesClosed` of `specs/` say them.
 #[derive(Clone, Copy)]
 pub struct Samples {
     pub first: i64,
@@ -108,72 +123,42 @@ pub struct Samples {
     pub fourth: i64,
 }
 
-// ---- minimum, maximum, clamp; extent and sign
-
-fn low(a: i64, b: i64) -> i64
-    ensures { result ≡ min a b }
-{
-    if a <= b { a } else { b }
+impl Samples {
+    // The same of each of the four.
+    fn map<F: Fn(i64) -> i64>(self, f: F) -> Samples
+        requires { F.pre f self.first × F.pre f self.second × F.pre f self.third × F.pre f self.fourth }
+        ensures { F.post f self.first result.first × F.post f self.second result.second × F.post f self.third result.third × F.post f self.fourth result.fourth }
+    {
+        Samples {
+            first: f(self.first),
+            second: f(self.second),
+            third: f(self.third),
+            fourth: f(self.fourth),
+        }
+    }
 }
 
-fn high(a: i64, b: i64) -> i64
-    ensures { result ≡ max a b }
-{
-    if a <= b { b } else { a }
-}
-
-// v, held between lo and hi.
-fn hold(v: i64, lo: i64, hi: i64) -> i64
-    ensures { result ≡ clamp v lo hi }
-{
-    high(lo, low(v, hi))
-}
+// ---- the walk
 
 // The larger of |d| and 1.
 fn extent(d: i64) -> i64
     requires { Within (pos extent_limit) d }
     ensures { result ≡ pos (extent_of d) }
 {
-    if d > 0 {
-        d
-    } else if d < 0 {
-        -d
-    } else {
-        1
-    }
+    d.abs().max(1)
 }
-
-fn sign(d: i64) -> i64
-    ensures { result ≡ sign_of d }
-{
-    if d > 0 {
-        1
-    } else if d < 0 {
-        -1
-    } else {
-        0
-    }
-}
-
-// ---- the walk
 
 // Is an edge with these signs and extents level, upright or at 45 degrees?
 fn is_octilinear(sx: i64, sy: i64, ax: i64, ay: i64) -> bool
     ensures { Decides result ((sx ≡ pos 0) ⊎ (sy ≡ pos 0) ⊎ (ax ≡ ay)) }
 {
-    if sx == 0 {
-        true
-    } else if sy == 0 {
-        true
-    } else {
-        ax == ay
-    }
+    sx == 0 || sy == 0 || ax == ay
 }
 
 // The walk, from extents and signs: in unit steps if the edge is octilinear, for then x and y are whole after each, and else in N.
 fn walk_along(e: Edge, ax: i64, ay: i64, sx: i64, sy: i64) -> Walk
     requires { Measured e × (ax ≡ pos (ax_of e)) × (ay ≡ pos (ay_of e)) × (sx ≡ sign_of (dx e)) × (sy ≡ sign_of (dy e)) }
-    ensures { (result.edge ≡ e) × IsWalk result }
+    ensures { result.edge ≡ e }
 {
     if is_octilinear(sx, sy, ax, ay) {
         Walk {
@@ -188,7 +173,7 @@ fn walk_along(e: Edge, ax: i64, ay: i64, sx: i64, sy: i64) -> Walk
                 start: e.y0,
                 sign: sy,
             },
-            steps: high(ax, ay),
+            steps: ax.max(ay),
             divisor: 1,
         }
     } else {
@@ -211,14 +196,16 @@ fn walk_along(e: Edge, ax: i64, ay: i64, sx: i64, sy: i64) -> Walk
     }
 }
 
-// The walk of an edge, worked out once.
-pub fn walk_of(e: Edge) -> Walk
-    requires { Measured e }
-    ensures { (result.edge ≡ e) × IsWalk result }
-{
-    let dx = e.x1 - e.x0;
-    let dy = e.y1 - e.y0;
-    walk_along(e, extent(dx), extent(dy), sign(dx), sign(dy))
+impl Walk {
+    // The walk of an edge, worked out once.
+    pub fn of(e: Edge) -> Walk
+        requires { Measured e }
+        ensures { result.edge ≡ e }
+    {
+        let dx = e.x1 - e.x0;
+        let dy = e.y1 - e.y0;
+        walk_along(e, extent(dx), extent(dy), dx.signum(), dy.signum())
+    }
 }
 
 // ---- the steps inside a cell
@@ -239,22 +226,22 @@ fn strip(s: i64, lower: i64, upper: i64, n: i64) -> Span
             first: -upper,
             last: -lower,
         }
-    } else if lower >= 0 {
-        Span { first: n, last: 0 }
-    } else if upper <= 0 {
-        Span { first: n, last: 0 }
-    } else {
+    } else if lower < 0 && 0 < upper {
         Span { first: 0, last: n }
+    } else {
+        Span { first: n, last: 0 }
     }
 }
 
-// The steps of one direction between a side and the one `width` on.
-fn strip_of(a: Axis, side: i64, width: i64, n: i64) -> Span
-    requires { AxisRoom a side width }
-    ensures { result ≡ strip_of a side width n }
-{
-    let lower = a.scale * (side - a.start);
-    strip(a.sign, lower, lower + a.scale * width, n)
+impl Across {
+    // The steps between its two sides.
+    fn strip(self, n: i64) -> Span
+        ensures { result ≡ strip_of self.axis self.side self.width n }
+    {
+        let a = self.axis;
+        let lower = a.scale * (self.side - a.start);
+        strip(a.sign, lower, lower + a.scale * self.width, n)
+    }
 }
 
 // The steps from 0 to n that are in both.
@@ -262,76 +249,105 @@ fn meet(r: Span, s: Span, n: i64) -> Span
     ensures { result ≡ meet_of r s n }
 {
     Span {
-        first: high(0, high(r.first, s.first)),
-        last: low(n, low(r.last, s.last)),
+        first: r.first.max(s.first).max(0),
+        last: r.last.min(s.last).min(n),
     }
 }
 
-// The steps of the walk that lie strictly inside the cell. For a caller that asks both whether there are any and what they add.
-pub fn span_in(w: Walk, c: Cell) -> Span
-    requires { IsWalk w × Room w.edge c }
-    ensures { result ≡ span_of w.x w.y c w.steps }
-{
-    let n = w.steps;
-    meet(
-        strip_of(w.x, c.left, c.width, n),
-        strip_of(w.y, c.top, c.width, n),
-        n,
-    )
-}
+impl Walk {
+    // From the cell's left side to its right one.
+    pub fn across(self, c: Cell) -> Across
+        requires { Room self.edge c }
+        ensures { (result.axis ≡ self.x) × (result.side ≡ c.left) × (result.width ≡ c.width) }
+    {
+        Across {
+            axis: self.x,
+            side: c.left,
+            width: c.width,
+        }
+    }
 
-// Does some part of the edge lie strictly inside the cell? If not, its details are 0 here and in every cell inside this one
-// (`proofs/Laws/Zero.antt`). An edge that only touches a corner, or runs along a side, does not.
-pub fn comes_inside(w: Walk, c: Cell) -> bool
-    requires { IsWalk w × Room w.edge c }
-    ensures { Decides result (Inside w.edge c) }
-{
-    let s = span_in(w, c);
-    s.first < s.last
+    // From its top to its bottom.
+    pub fn down(self, c: Cell) -> Across
+        requires { Room self.edge c }
+        ensures { (result.axis ≡ self.y) × (result.side ≡ c.top) × (result.width ≡ c.width) }
+    {
+        Across {
+            axis: self.y,
+            side: c.top,
+            width: c.width,
+        }
+    }
+
+    // The steps of the walk that lie strictly inside the cell. For a caller that asks both whether there are any and what they add.
+    pub fn span_in(self, c: Cell) -> Span
+        requires { Room self.edge c }
+        ensures { result ≡ span_of self.x self.y c self.steps }
+    {
+        let n = self.steps;
+        meet(self.across(c).strip(n), self.down(c).strip(n), n)
+    }
+
+    // Does some part of the edge lie strictly inside the cell? If not, its details are 0 here and in every cell inside this one
+    // (`proofs/Laws/Zero.antt`). An edge that only touches a corner, or runs along a side, does not.
+    pub fn comes_inside(self, c: Cell) -> bool
+        requires { Room self.edge c }
+        ensures { Decides result (Inside self.edge c) }
+    {
+        let s = self.span_in(c);
+        s.first < s.last
+    }
 }
 
 // ---- the closed form
 
-// The step at which a direction crosses the middle between its sides.
-fn middle_of(a: Axis, side: i64, half: i64) -> i64
-    requires { AxisRoom a side half }
-    ensures { result ≡ to_middle a side half }
-{
-    a.sign * (a.scale * (side - a.start) + a.scale * half)
-}
-
 // From the first step to the last, cut at the steps x and y, at which the middles are crossed, if these lie between.
 fn cuts_of(s: Span, x: i64, y: i64) -> Samples
+    requires { s.first ≤ℤ s.last }
     ensures { result ≡ cuts_at s.first s.last x y }
 {
-    let a = hold(x, s.first, s.last);
-    let b = hold(y, s.first, s.last);
+    let a = x.clamp(s.first, s.last);
+    let b = y.clamp(s.first, s.last);
     Samples {
         first: s.first,
-        second: low(a, b),
-        third: high(a, b),
+        second: a.min(b),
+        third: a.max(b),
         fourth: s.last,
     }
 }
 
-// How far past a side a direction is after t steps, k times over.
-fn beyond(k: i64, x: i64, s: i64, side: i64, t: i64) -> i64
-    requires { (pos 0 ≤ℤ k) × (k ≤ℤ pos extent_limit) × Within (pos coordinate_limit) x × Within (pos 1) s × Within (pos coordinate_limit) side × Within (pos crossing_limit) t }
-    ensures { result ≡ k *ℤ (x -ℤ side) +ℤ s *ℤ t }
-{
-    k * (x - side) + s * t
-}
+impl Across {
+    // The step at which the middle between the sides is crossed; and with another number in the place of half of the width, the line so far past the first side.
+    pub fn middle(self, half: i64) -> i64
+        requires { (pos 0 ≤ℤ half) × (half ≤ℤ self.width) }
+        ensures { result ≡ to_middle self.axis self.side half }
+    {
+        let a = self.axis;
+        a.sign * (a.scale * (self.side - a.start) + a.scale * half)
+    }
 
-// `width` is for the contract alone.
-fn beyond_at(a: Axis, side: i64, width: i64, k: Samples) -> Samples
-    requires { AxisRoom a side width × SamplesWithin (pos crossing_limit) k }
-    ensures { result ≡ beyond_at a side k }
-{
-    Samples {
-        first: beyond(a.scale, a.start, a.sign, side, k.first),
-        second: beyond(a.scale, a.start, a.sign, side, k.second),
-        third: beyond(a.scale, a.start, a.sign, side, k.third),
-        fourth: beyond(a.scale, a.start, a.sign, side, k.fourth),
+    // The width, `scale` times over.
+    fn reach(self) -> i64
+        ensures { result ≡ self.axis.scale *ℤ self.width }
+    {
+        self.axis.scale * self.width
+    }
+
+    // How far past the first side after t steps, `scale` times over.
+    fn beyond(self, t: i64) -> i64
+        requires { Within (pos crossing_limit) t }
+        ensures { result ≡ beyond_side self.axis self.side t }
+    {
+        let a = self.axis;
+        a.scale * (a.start - self.side) + a.sign * t
+    }
+
+    // And at the four cuts.
+    fn past(self, k: Samples) -> Samples
+        requires { SamplesWithin (pos crossing_limit) k }
+        ensures { result ≡ beyond_at self.axis self.side k }
+    {
+        k.map(|t| self.beyond(t))
     }
 }
 
@@ -340,19 +356,14 @@ fn nearer(m: i64, u: i64) -> i64
     requires { Within (pos width_times_extent_limit) m × Within (pos width_times_extent_limit) u }
     ensures { result ≡ min u (m -ℤ u) }
 {
-    low(u, m - u)
+    u.min(m - u)
 }
 
 fn near_at(m: i64, u: Samples) -> Samples
     requires { Within (pos width_times_extent_limit) m × SamplesWithin (pos width_times_extent_limit) u }
     ensures { result ≡ near_at m u }
 {
-    Samples {
-        first: nearer(m, u.first),
-        second: nearer(m, u.second),
-        third: nearer(m, u.third),
-        fourth: nearer(m, u.fourth),
-    }
+    u.map(|z| nearer(m, z))
 }
 
 // What a piece adds to twice the integral of f dg, f and g being linear on it.
@@ -374,14 +385,14 @@ fn pieces(f: Samples, g: Samples) -> i64
 }
 
 // h, v and d, `divisor` times over.
-fn numerators(a: Axis, b: Axis, c: Cell, k: Samples) -> Details
-    requires { AxisRoom a c.left c.width × AxisRoom b c.top c.width × SamplesWithin (pos crossing_limit) k × SamplesClosed a c.left c.width k × SamplesClosed b c.top c.width k }
-    ensures { result ≡ numerators_at a b c k }
+fn numerators(a: Across, b: Across, k: Samples) -> Details
+    requires { SamplesWithin (pos crossing_limit) k × SamplesClosed a.axis a.side a.width k × SamplesClosed b.axis b.side b.width k }
+    ensures { result ≡ numerators_of (a.axis.scale *ℤ a.width) (b.axis.scale *ℤ b.width) (beyond_at a.axis a.side k) (beyond_at b.axis b.side k) }
 {
-    let x = beyond_at(a, c.left, c.width, k);
-    let y = beyond_at(b, c.top, c.width, k);
-    let nx = near_at(a.scale * c.width, x);
-    let ny = near_at(b.scale * c.width, y);
+    let x = a.past(k);
+    let y = b.past(k);
+    let nx = near_at(a.reach(), x);
+    let ny = near_at(b.reach(), y);
     Details {
         h: pieces(nx, y),
         v: -pieces(ny, x),
@@ -397,7 +408,7 @@ fn round_one(m: i64, n: i64) -> i64
     if n == 1 { m } else { div_round_half_away(m, n) }
 }
 
-// Each on its own.
+// Each on its own. A map of these three would be used here alone, and be longer.
 fn round_all(m: Details, n: i64) -> Details
     requires { pos 0 <ℤ n }
     ensures { result ≡ rounded_by n m }
@@ -406,60 +417,6 @@ fn round_all(m: Details, n: i64) -> Details
         h: round_one(m.h, n),
         v: round_one(m.v, n),
         d: round_one(m.d, n),
-    }
-}
-
-// ---- an edge in one quarter
-
-// `before` says how far both ends of an edge lie before the middle of a cell, added up: to the left of it, or above it. They lie behind it where that is
-// negative. If they lie in one half, it is the width less their distances from that half's side.
-
-fn abs(z: i64) -> i64
-    requires { Within (pos extent_limit) z }
-    ensures { result ≡ abs_of z }
-{
-    if z < 0 { -z } else { z }
-}
-
-// Do both ends lie in one half, the middle with it? They do where they lie no farther from each other, by `run`, than both together from the middle.
-pub fn lies_in_half(run: i64, before: i64) -> bool
-    requires { Within (pos extent_limit) run × Within (pos extent_limit) before }
-    ensures { Decides result (abs_of run ≤ℤ abs_of before) }
-{
-    abs(run) <= abs(before)
-}
-
-// Which half: 0 the first, 1 the second.
-pub fn half_with(before: i64) -> usize
-    ensures { result ≡ half_with before }
-{
-    if before < 0 { 1 } else { 0 }
-}
-
-// How far they lie before the middle of that half.
-pub fn before_half(before: i64, half: i64) -> i64
-    requires { Within (pos extent_limit) before × Within (pos extent_limit) half }
-    ensures { result ≡ before_half before half }
-{
-    if before < 0 {
-        before + half
-    } else {
-        before - half
-    }
-}
-
-// Along an edge in one quarter no tent bends: it is one piece from end to end, whose values are whole. In the upper half d is h, and in the lower it is minus h.
-// So the details are worked out from how far the ends lie before the cell's middles, and from the differences of the ends.
-pub fn quarter_details(width: i64, left: i64, above: i64, dx: i64, dy: i64) -> Details
-    requires { Within (pos extent_limit) width × Within (pos extent_limit) left × Within (pos extent_limit) above × Within (pos extent_limit) dx × Within (pos extent_limit) dy }
-    ensures { result ≡ quarter_details width left above dx dy }
-{
-    let h = (width - abs(left)) * dy;
-    let v = (width - abs(above)) * dx;
-    if above < 0 {
-        Details { h: h, v: -v, d: -h }
-    } else {
-        Details { h: h, v: -v, d: h }
     }
 }
 
@@ -473,93 +430,94 @@ pub fn half_of(width: i64) -> i64
     width >> 1
 }
 
-// Where some step lies inside: the sum over the pieces, rounded.
-fn cut_details(w: Walk, c: Cell, half: i64, s: Span) -> Details
-    requires { IsWalk w × Room w.edge c × (c.width ≡ half +ℤ half) × (pos 0 ≤ℤ half) × (s ≡ span_of w.x w.y c w.steps) × (s.first <ℤ s.last) }
-    ensures { result ≡ details_of w.edge c }
-{
-    let k = cuts_of(s, middle_of(w.x, c.left, half), middle_of(w.y, c.top, half));
-    round_all(numerators(w.x, w.y, c, k), w.divisor)
-}
-
-// The rounded details of the walk's edge in the cell, given the steps inside, as `span_in` answers them.
-pub fn details_over(w: Walk, c: Cell, s: Span) -> Details
-    requires { IsWalk w × Room w.edge c × (s ≡ span_of w.x w.y c w.steps) }
-    ensures { result ≡ details_of w.edge c }
-{
-    if s.first < s.last {
-        let half = half_of(c.width);
-        cut_details(w, c, half, s)
-    } else {
-        Details { h: 0, v: 0, d: 0 }
+impl Walk {
+    // Where some step lies inside: the sum over the pieces, rounded.
+    fn cut_details(self, c: Cell, half: i64, s: Span) -> Details
+        requires { Room self.edge c × (c.width ≡ half +ℤ half) × (pos 0 ≤ℤ half) × (s ≡ span_of self.x self.y c self.steps) × (s.first <ℤ s.last) }
+        ensures { result ≡ details_of self.edge c }
+    {
+        let x = self.across(c);
+        let y = self.down(c);
+        let k = cuts_of(s, x.middle(half), y.middle(half));
+        round_all(numerators(x, y, k), self.divisor)
     }
-}
 
-// The rounded details of the walk's edge in the cell.
-pub fn details_in(w: Walk, c: Cell) -> Details
-    requires { IsWalk w × Room w.edge c }
-    ensures { result ≡ details_of w.edge c }
-{
-    details_over(w, c, span_in(w, c))
+    // The rounded details of the walk's edge in the cell, given the steps inside, as `span_in` answers them.
+    pub fn details_over(self, c: Cell, s: Span) -> Details
+        requires { Room self.edge c × (s ≡ span_of self.x self.y c self.steps) }
+        ensures { result ≡ details_of self.edge c }
+    {
+        if s.first < s.last {
+            let half = half_of(c.width);
+            self.cut_details(c, half, s)
+        } else {
+            Details { h: 0, v: 0, d: 0 }
+        }
+    }
+
+    // The rounded details of the walk's edge in the cell.
+    pub fn details_in(self, c: Cell) -> Details
+        requires { Room self.edge c }
+        ensures { result ≡ details_of self.edge c }
+    {
+        self.details_over(c, self.span_in(c))
+    }
 }
 
 // ---- the rounded area
 
 // Held between 0 and m, at each cut.
 fn hold_at(m: i64, u: Samples) -> Samples
+    requires { pos 0 ≤ℤ m }
     ensures { result ≡ held_at m u }
 {
-    Samples {
-        first: hold(u.first, 0, m),
-        second: hold(u.second, 0, m),
-        third: hold(u.third, 0, m),
-        fourth: hold(u.fourth, 0, m),
+    u.map(|z| z.clamp(0, m))
+}
+
+impl Walk {
+    // The steps of the walk, from 0 to its last, in the cell's rows: y is between its sides there, and x may be anywhere.
+    fn rows_of(self, c: Cell) -> Span
+        requires { Room self.edge c }
+        ensures { result ≡ rows self.y c self.steps }
+    {
+        let n = self.steps;
+        let r = self.down(c).strip(n);
+        meet(r, r, n)
     }
 }
 
-// The steps of the walk, from 0 to its last, in the cell's rows: y is between its sides there, and x may be anywhere.
-fn rows_of(w: Walk, c: Cell) -> Span
-    requires { IsWalk w × Room w.edge c }
-    ensures { result ≡ rows w.y c w.steps }
-{
-    let n = w.steps;
-    let r = strip_of(w.y, c.top, c.width, n);
-    meet(r, r, n)
-}
-
 // The area, `divisor` times over, from cuts in the rows.
-fn area_numerator(a: Axis, b: Axis, c: Cell, k: Samples) -> i64
-    requires { AxisRoom a c.left c.width × AxisRoom b c.top c.width × SamplesWithin (pos crossing_limit) k × SamplesClosed b c.top c.width k }
-    ensures { result ≡ area_at a b c k }
+fn area_numerator(a: Across, b: Across, k: Samples) -> i64
+    requires { SamplesWithin (pos crossing_limit) k × SamplesClosed b.axis b.side b.width k }
+    ensures { result ≡ piece_sum (held_at (a.axis.scale *ℤ a.width) (beyond_at a.axis a.side k)) (beyond_at b.axis b.side k) }
 {
-    let x = hold_at(a.scale * c.width, beyond_at(a, c.left, c.width, k));
-    let y = beyond_at(b, c.top, c.width, k);
+    let x = hold_at(a.reach(), a.past(k));
+    let y = b.past(k);
     pieces(x, y)
 }
 
-// Where some step is in the rows: the sum over the pieces, rounded. The sides are crossed as a middle would be that lies 0, or the whole width, past the
-// left side.
-fn cut_area(w: Walk, c: Cell, s: Span) -> i64
-    requires { IsWalk w × Room w.edge c × (s ≡ rows w.y c w.steps) × (s.first <ℤ s.last) }
-    ensures { result ≡ rounded_area w.edge c }
-{
-    let k = cuts_of(
-        s,
-        middle_of(w.x, c.left, 0),
-        middle_of(w.x, c.left, c.width),
-    );
-    round_one(area_numerator(w.x, w.y, c, k), w.divisor)
-}
+impl Walk {
+    // Where some step is in the rows: the sum over the pieces, rounded. The sides are crossed as a middle would be that lies 0, or the whole width, past the
+    // left side.
+    fn cut_area(self, c: Cell, s: Span) -> i64
+        requires { Room self.edge c × (s ≡ rows self.y c self.steps) × (s.first <ℤ s.last) }
+        ensures { result ≡ rounded_area self.edge c }
+    {
+        let x = self.across(c);
+        let k = cuts_of(s, x.middle(0), x.middle(c.width));
+        round_one(area_numerator(x, self.down(c), k), self.divisor)
+    }
 
-// The rounded area of the walk's edge in the cell. An edge that does not come inside may have one: to the right of the cell, in its rows.
-pub fn area_in(w: Walk, c: Cell) -> i64
-    requires { IsWalk w × Room w.edge c }
-    ensures { result ≡ rounded_area w.edge c }
-{
-    let s = rows_of(w, c);
-    if s.first < s.last {
-        cut_area(w, c, s)
-    } else {
-        0
+    // The rounded area of the walk's edge in the cell. An edge that does not come inside may have one: to the right of the cell, in its rows.
+    pub fn area_in(self, c: Cell) -> i64
+        requires { Room self.edge c }
+        ensures { result ≡ rounded_area self.edge c }
+    {
+        let s = self.rows_of(c);
+        if s.first < s.last {
+            self.cut_area(c, s)
+        } else {
+            0
+        }
     }
 }

@@ -4,235 +4,160 @@
 // `stdin` has the cases, each kind under a comment, and `stdout` what must be printed, as `answers` of rust/ makes it.
 #![tactic(auto)]
 
-ghost use Rattle.std.specs.Prelude.{pos};
+ghost use Rattle.std.specs.Prelude.{pos, IfSome, IsTrue, ◌-ℤ◌, ◌*ℤ◌, ◌≤ℤ◌};
+ghost use Rattle.integers.specs.Units.{width_times_extent_limit};
 ghost use Rattle.integers.specs.Within.{Within};
-ghost use Rattle.edge.specs.Room.{coordinate_limit, Room};
-ghost use Rattle.edge.specs.WalkOf.{IsWalk};
-ghost use Rattle.edge_vectors.specs.Ready.{Shows, PointInRange, HalfWidth, HasRoom, Ready};
+ghost use Rattle.edge.specs.Walk.{extent};
+ghost use Rattle.edge.specs.Room.{coordinate_limit, Even, Room};
 
-use edge::{Cell, Edge, Walk, area_in, comes_inside, details_in, walk_of};
+use edge::{Cell, Edge, Walk};
 use std::io;
 use std::io::Write;
-use vector_print::{INPUT_LIMIT, decimal, number, read_full, words};
+use vector_print::{INPUT_LIMIT, read_full};
 
 // 2^28: what a coordinate may be at most, and a width times an extent
-const LIMIT: i64 = 268435456;
+const LIMIT: i64 = 1 << 28;
 
-// 2^27: what half a width may be at most
-const HALF_LIMIT: i64 = 134217728;
-
-// ---- what the code of `edge` requires, tested
-
-fn within(x: i64) -> bool
-    ensures { Shows result (Within (pos coordinate_limit) x) }
-{
-    -LIMIT <= x && x <= LIMIT
-}
-
-fn point_in_range(x: i64, y: i64) -> bool
-    ensures { Shows result (PointInRange x y) }
-{
-    within(x) && within(y)
-}
-
-fn is_half_width(half: i64) -> bool
-    ensures { Shows result (HalfWidth half) }
-{
-    0 <= half && half <= HALF_LIMIT
-}
-
-// Is there room in one direction of the edge? Where it stands still its extent is 1, and the width alone is within the limit.
-fn has_room(from: i64, to: i64, half: i64) -> bool
-    requires { Within (pos coordinate_limit) from × Within (pos coordinate_limit) to × HalfWidth half }
-    ensures { Shows result (HasRoom from to half) }
-{
-    within((to - from) * (half + half))
-}
-
-// The cell is given by half its width, so that its width is even.
-fn checked(x0: i64, y0: i64, x1: i64, y1: i64, left: i64, top: i64, half: i64) -> bool
-    ensures { Shows result (Ready x0 y0 x1 y1 left top half) }
-{
-    if !point_in_range(x0, y0) {
-        return false;
-    }
-    if !point_in_range(x1, y1) {
-        return false;
-    }
-    if !point_in_range(left, top) {
-        return false;
-    }
-    if !is_half_width(half) {
-        return false;
-    }
-    has_room(x0, x1, half) && has_room(y0, y1, half)
-}
+// How many numbers a line has: an edge's four, a cell's left and top side and half its width.
+const NUMBERS: usize = 7;
 
 // ---- one edge and one cell
 
-fn show<W: Write>(
-    out: &mut W,
-    x0: i64,
-    y0: i64,
-    x1: i64,
-    y1: i64,
-    left: i64,
-    top: i64,
-    half: i64,
-) -> io::Result<()> {
-    if checked(x0, y0, x1, y1, left, top, half) {
-        let width = half + half;
-        print_case(
-            out,
-            walk_of(Edge { x0, y0, x1, y1 }),
-            Cell { left, top, width },
-        )
+#[derive(Clone, Copy)]
+struct Case {
+    edge: Edge,
+    cell: Cell,
+}
+
+fn is_limited(x: i64) -> bool
+    ensures { IsTrue result → Within (pos coordinate_limit) x }
+{
+    (-LIMIT..=LIMIT).contains(&x)
+}
+
+// A coordinate that is in range.
+fn limited(x: i64) -> Option<i64>
+    ensures { IfSome result (λ y. Within (pos coordinate_limit) y) }
+{
+    if is_limited(x) { Some(x) } else { None }
+}
+
+// The width that half of it gives, and so an even one.
+fn width_of(half: i64) -> Option<i64>
+    ensures { IfSome result (λ w. Even w × (w ≤ℤ pos width_times_extent_limit)) }
+{
+    if (0..=LIMIT / 2).contains(&half) {
+        Some(half + half)
     } else {
-        words(out, b"out of range\n")
+        None
     }
 }
 
-fn print_case<W: Write>(out: &mut W, w: Walk, c: Cell) -> io::Result<()>
-    requires { IsWalk w × Room w.edge c }
+// Is there room in one direction of the edge? Where it stands still its extent is 1, and the width alone is within the limit.
+fn has_room(from: i64, to: i64, width: i64) -> bool
+    requires ends { Within (pos coordinate_limit) from × Within (pos coordinate_limit) to }
+    requires width { Even width × (width ≤ℤ pos width_times_extent_limit) }
+    ensures { IsTrue result → (pos (extent (to -ℤ from)) *ℤ width) ≤ℤ pos width_times_extent_limit }
 {
-    let r = details_in(w, c);
-    decimal(out, r.h)?;
-    number(out, r.v)?;
-    number(out, r.d)?;
-    number(out, area_in(w, c))?;
-    if comes_inside(w, c) {
-        words(out, b" in\n")
-    } else {
-        words(out, b" out\n")
+    is_limited((to - from) * width)
+}
+
+impl Case {
+    // The case that the numbers of a line name, where there is room for all that `edge` works out.
+    fn of(numbers: [i64; NUMBERS]) -> Option<Case>
+        ensures { IfSome result (λ c. Room c.edge c.cell) }
+    {
+        let [x0, y0, x1, y1, left, top, half] = numbers;
+        let edge = Edge {
+            x0: limited(x0)?,
+            y0: limited(y0)?,
+            x1: limited(x1)?,
+            y1: limited(y1)?,
+        };
+        let cell = Cell {
+            left: limited(left)?,
+            top: limited(top)?,
+            width: width_of(half)?,
+        };
+        if has_room(edge.x0, edge.x1, cell.width) && has_room(edge.y0, edge.y1, cell.width) {
+            Some(Case { edge, cell })
+        } else {
+            None
+        }
     }
+}
+
+// All calls of `edge`.
+fn show<W: Write>(out: &mut W, case: Case) -> io::Result<()>
+    requires { Room case.edge case.cell }
+{
+    let walk = Walk::of(case.edge);
+    let details = walk.details_in(case.cell);
+    let area = walk.area_in(case.cell);
+    let place = if walk.comes_inside(case.cell) {
+        "in"
+    } else {
+        "out"
+    };
+    writeln!(
+        out,
+        "{} {} {} {area} {place}",
+        details.h, details.v, details.d
+    )
 }
 
 // ---- the cases, from standard input
 
-// The last seven numbers that were read.
-#[derive(Clone, Copy)]
-struct Numbers {
-    x0: i64,
-    y0: i64,
-    x1: i64,
-    y1: i64,
-    left: i64,
-    top: i64,
-    half: i64,
+// A byte that ends a number: each from `0` on is a digit, whatever it is.
+fn ends(b: u8) -> bool {
+    b < b'0' && b != b'-'
 }
 
-// And the number that is being read, or a comment.
-#[derive(Clone, Copy)]
-struct Reader {
-    numbers: Numbers,
-    size: u64,
-    negative: bool,
-    comment: bool,
-}
-
-fn push(n: Numbers, last: i64) -> Numbers {
-    Numbers {
-        x0: n.y0,
-        y0: n.x1,
-        x1: n.y1,
-        y1: n.left,
-        left: n.top,
-        top: n.half,
-        half: last,
-    }
-}
-
-// A size of 2^63 or more is read as the least number, whatever its sign: all are out of range.
-fn signed(size: u64, negative: bool) -> i64 {
-    if size >= 9223372036854775808 {
-        -9223372036854775808
-    } else if negative {
-        -(size as i64)
-    } else {
-        size as i64
-    }
-}
-
-// One more digit, for a number below 2^60; a larger one stays as it is, so that nothing overflows.
-fn longer(size: u64, digit: u8) -> u64 {
-    if size < 1152921504606846976 {
-        size * 10 + digit as u64
+// A `-` begins a number anew. One that is too large is held at the greatest: it is out of range.
+fn number_of(word: &[u8]) -> i64 {
+    let (digits, negative) = match word.iter().rposition(|b| *b == b'-') {
+        Some(i) => (&word[i + 1..], true),
+        None => (word, false),
+    };
+    let size = digits.iter().fold(0i64, |size, b| {
+        size.saturating_mul(10)
+            .saturating_add(i64::from(b.wrapping_sub(b'0')))
+    });
+    if negative {
+        size.saturating_neg()
     } else {
         size
     }
 }
 
-// One more byte: of a comment, which goes on to the end of its line; `#`; `-`; a digit; or what ends a number.
-fn read_byte(r: Reader, b: u8) -> Reader {
-    let numbers = r.numbers;
-    if r.comment {
-        Reader {
-            numbers: numbers,
-            size: 0,
-            negative: false,
-            comment: b != b'\n',
-        }
-    } else if b == b'#' {
-        Reader {
-            numbers: numbers,
-            size: 0,
-            negative: false,
-            comment: true,
-        }
-    } else if b == b'-' {
-        Reader {
-            numbers: numbers,
-            size: 0,
-            negative: true,
-            comment: false,
-        }
-    } else if b >= b'0' {
-        Reader {
-            numbers: numbers,
-            size: longer(r.size, b - b'0'),
-            negative: r.negative,
-            comment: false,
-        }
-    } else {
-        Reader {
-            numbers: push(numbers, signed(r.size, r.negative)),
-            size: 0,
-            negative: false,
-            comment: false,
-        }
+// The numbers of a line come after those of the lines before: the last seven are a case. Is the line one? A comment is none, and takes the number before it
+// away.
+fn read_line(numbers: &mut [i64; NUMBERS], line: &[u8]) -> bool {
+    let comment = line.iter().position(|b| *b == b'#');
+    let mut words = line[..comment.unwrap_or(line.len())].split(|b| ends(*b));
+    if comment.is_some() {
+        words.next_back();
     }
+    for word in words {
+        numbers.rotate_left(1);
+        numbers[NUMBERS - 1] = number_of(word);
+    }
+    comment.is_none()
 }
 
-fn show_numbers<W: Write>(out: &mut W, n: Numbers) -> io::Result<()> {
-    show(out, n.x0, n.y0, n.x1, n.y1, n.left, n.top, n.half)
-}
-
-// Every line that is no comment is taken to have seven numbers.
+// Every line that is no comment is taken to have seven numbers. What comes after the last newline is no line.
 fn show_all<W: Write>(out: &mut W, text: &[u8]) -> io::Result<()> {
-    let mut r = Reader {
-        numbers: Numbers {
-            x0: 0,
-            y0: 0,
-            x1: 0,
-            y1: 0,
-            left: 0,
-            top: 0,
-            half: 0,
-        },
-        size: 0,
-        negative: false,
-        comment: false,
-    };
-    let mut i = 0;
-    while i < text.len() {
-        let b = text[i];
-        let comment = r.comment;
-        r = read_byte(r, b);
-        if b == b'\n' && !comment {
-            let numbers = r.numbers;
-            show_numbers(out, numbers)?;
+    let mut numbers = [0i64; NUMBERS];
+    for line in text.split_inclusive(|b| *b == b'\n') {
+        let Some(line) = line.strip_suffix(b"\n") else {
+            break;
+        };
+        if read_line(&mut numbers, line) {
+            match Case::of(numbers) {
+                Some(case) => show(out, case)?,
+                None => writeln!(out, "out of range")?,
+            }
         }
-        i += 1;
     }
     Ok(())
 }

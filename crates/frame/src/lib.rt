@@ -8,21 +8,21 @@
 ghost use Rattle.std.specs.Prelude.{◌≡◌, ◌++◌, ◌*◌, ◌<◌, ◌≤◌, length, drop};
 ghost use Rattle.integers.specs.Units.{greatest_side};
 ghost use Rattle.accuracy.specs.Outline.{edge_count};
+ghost use Rattle.tile.specs.Answers.{number_of};
 ghost use Rattle.frame_text.specs.OutputLines.{refusal_text, summary_text, rows_text};
 ghost use Rattle.frame_text.specs.Frames.{frame};
-ghost use Rattle.frame.specs.Inner.{picture_size, table_text, used_entries, built_table, outline_text, frame_output, frame_table_after, is_deeper, level_refusal};
+ghost use Rattle.frame.specs.Inner.{picture_size, table_text, used_entries, built_table, outline_text, frame_output, frame_table_after, is_deeper, level_refusal, answered};
 ghost use Rattle.frame.specs.Output.{table_length, output_text, table_after, answer_of};
 ghost use Rattle.frame.specs.Printed.{Answered};
 
 pub use frame_text::TEXT_LIMIT;
 use frame_text::{printing, reading};
+use tile::{GREATEST_SIDE, Refusal};
 
 // A table of side 64 has so many entries, and its deepest picture so many greys.
 pub const TABLE_LENGTH: usize = 4096;
 
-// Tiles are 1 to 64 pixels wide, and have levels 0 to 6.
-const GREATEST_SIDE: u32 = 64;
-
+// A tile of side 64 has levels 0 to 6.
 const GREATEST_DEPTH: u32 = 6;
 
 // The longest answer: the line of the edge count and the root, and for each of 64 rows one of 64 greys of two digits.
@@ -31,16 +31,7 @@ pub const ANSWER_LENGTH: usize = 21 + 64 * 129;
 // The word before a refusal's number, the number's two digits, and the end of the line.
 const REFUSAL_LENGTH: usize = 11;
 
-// Question 11: is the text that of a frame?
-const NO_FRAME: u32 = 11;
-
-// Question 7: does the tile have the level?
-const NO_LEVEL: u32 = 7;
-
-// What a call answers that did its work.
-const DONE: u32 = 0;
-
-// What the program prints: the first `len` bytes. The others are 0.
+// What the program prints: the first `len` bytes. The others are 0. (A fixed array and a length: there is no heap, and the theorem `Answered` names both.)
 #[derive(Drop)]
 pub struct Answer {
     pub bytes: [u8; ANSWER_LENGTH],
@@ -50,12 +41,11 @@ pub struct Answer {
 // ---- answers
 
 // A refusal's number has two decimal digits.
-fn refused(number: u32) -> Answer
-    requires { number < 100 }
-    ensures { result ≡ answer_of (refusal_text number) }
+fn refused(refusal: Refusal) -> Answer
+    ensures { result ≡ answer_of (refusal_text (number_of refusal)) }
 {
     let mut bytes = [0u8; ANSWER_LENGTH];
-    printing::put_refusal(&mut bytes, number);
+    printing::put_refusal(&mut bytes, refusal.number());
     Answer {
         bytes,
         len: REFUSAL_LENGTH,
@@ -89,22 +79,21 @@ fn picture_size(level: u32) -> usize
     n * n
 }
 
+// Side, level, points and counts come one by one, as the calls of `tile` take them: a struct of them would be made once and taken apart at each call.
+
 // The greys of a level, from the table that building left.
-fn draw_table(side: u32, level: u32, edges: u32, table: &[i64]) -> Answer
-    ensures { result ≡ answer_of (table_text side level edges table.now) }
+fn draw_table(side: u32, level: u32, edges: u32, table: &[i64]) -> Result<Answer, Refusal>
+    ensures { answered result ≡ answer_of (table_text side level edges table.now) }
 {
     let mut picture = [0u8; TABLE_LENGTH];
     let places = picture_size(level);
-    let number = tile::greys(side, level, table, &mut picture[..places]);
-    if number != DONE {
-        return refused(number);
-    }
-    drawn(
+    tile::greys(side, level, table, &mut picture[..places])?;
+    Ok(drawn(
         edges,
         table[0],
         &picture[..places],
         haar::cells_across(level as usize),
-    )
+    ))
 }
 
 // How many entries a tile's table has, of those that the program has: none where the side is out of range, which building then refuses.
@@ -118,65 +107,65 @@ fn used_entries(side: u32) -> usize
 }
 
 // Building, and then the greys.
-fn draw_outline(side: u32, level: u32, points: &[i64], counts: &[u32], table: &mut [i64]) -> Answer
-    requires { length table.old ≡ table_length }
-    ensures value { result ≡ answer_of (outline_text (frame side level points.now counts.now) table.old) }
+fn draw_outline(
+    side: u32,
+    level: u32,
+    points: &[i64],
+    counts: &[u32],
+    table: &mut [i64; TABLE_LENGTH],
+) -> Result<Answer, Refusal>
+    ensures value { answered result ≡ answer_of (outline_text (frame side level points.now counts.now) table.old) }
     ensures table_after { table.new ≡ built_table (frame side level points.now counts.now) table.old ++ drop (used_entries side) table.old }
 {
     let n = used_entries(side);
-    let built = tile::build(side, points, counts, &mut table[..n]);
-    let number = built.number;
-    if number != DONE {
-        return refused(number);
-    }
-    draw_table(side, level, built.edges, &table[..n])
+    let edges = tile::build(side, points, counts, &mut table[..n])?;
+    draw_table(side, level, edges, &table[..n])
 }
 
 // Has the level more cells across than the side has pixels? Of a tile's side this is question 7's "no".
 fn is_deeper(side: u32, level: u32) -> bool
     ensures { result ≡ is_deeper side level }
 {
-    if level > GREATEST_DEPTH {
-        return true;
-    }
-    (side as usize) < haar::cells_across(level as usize)
+    level > GREATEST_DEPTH || (side as usize) < haar::cells_across(level as usize)
 }
 
-// The refusal where the level is deeper than the tile: building's, or 7. Building has a table of its own, so that the program's stays as it was.
-fn refused_level(side: u32, points: &[i64], counts: &[u32]) -> Answer
-    ensures { result ≡ answer_of (refusal_text (level_refusal side points.now counts.now)) }
+// The refusal where the level is deeper than the tile: building's, or question 7's. Building has a table of its own, so that the program's stays as it was.
+fn refused_level(side: u32, points: &[i64], counts: &[u32]) -> Refusal
+    ensures { number_of result ≡ level_refusal side points.now counts.now }
 {
     let mut table = [0i64; TABLE_LENGTH];
     let n = used_entries(side);
-    let number = tile::build(side, points, counts, &mut table[..n]).number;
-    if number != DONE {
-        return refused(number);
+    match tile::build(side, points, counts, &mut table[..n]) {
+        Ok(_) => Refusal::Level,
+        Err(refusal) => refusal,
     }
-    refused(NO_LEVEL)
 }
 
 // What is printed of a frame. A refusal leaves the table as it was.
-fn draw_frame(side: u32, level: u32, points: &[i64], counts: &[u32], table: &mut [i64]) -> Answer
-    requires { (length table.old ≡ table_length) × (length points.now ≡ 2 * edge_count counts.now) }
-    ensures value { result ≡ answer_of (frame_output (frame side level points.now counts.now)) }
+fn draw_frame(
+    side: u32,
+    level: u32,
+    points: &[i64],
+    counts: &[u32],
+    table: &mut [i64; TABLE_LENGTH],
+) -> Result<Answer, Refusal>
+    requires { length points.now ≡ 2 * edge_count counts.now }
+    ensures value { answered result ≡ answer_of (frame_output (frame side level points.now counts.now)) }
     ensures table_after { table.new ≡ frame_table_after (frame side level points.now counts.now) table.old }
 {
     if is_deeper(side, level) {
-        return refused_level(side, points, counts);
+        return Err(refused_level(side, points, counts));
     }
     draw_outline(side, level, points, counts, table)
 }
 
-// The whole program but for reading and writing: what it prints of a text, whatever the table held before. Where nothing is refused the outline's table
-// is then in the first side × side entries; a refusal leaves the table as it was.
-pub fn draw(text: &[u8], table: &mut [i64; TABLE_LENGTH]) -> Answer
-    ensures value { result ≡ answer_of (output_text text.now) }
+// What is printed of a text: of its frame, if it has the form of one.
+fn draw_text(text: &[u8], table: &mut [i64; TABLE_LENGTH]) -> Result<Answer, Refusal>
+    ensures value { answered result ≡ answer_of (output_text text.now) }
     ensures table_after { table.new ≡ table_after text.now table.old }
-    ensures answered { Answered text.now result }
-    ensures text_value { text.now ≡ text.now }
 {
     if !reading::is_frame(text) {
-        return refused(NO_FRAME);
+        return Err(Refusal::Frame);
     }
     let mut points = [0i64; reading::MOST_COORDINATES];
     let mut counts = [0u32; reading::MOST_CONTOURS];
@@ -190,4 +179,18 @@ pub fn draw(text: &[u8], table: &mut [i64; TABLE_LENGTH]) -> Answer
         &counts[..c],
         table,
     )
+}
+
+// The whole program but for reading and writing: what it prints of a text, whatever the table held before. Where nothing is refused the outline's table
+// is then in the first side × side entries; a refusal leaves the table as it was.
+pub fn draw(text: &[u8], table: &mut [i64; TABLE_LENGTH]) -> Answer
+    ensures value { result ≡ answer_of (output_text text.now) }
+    ensures table_after { table.new ≡ table_after text.now table.old }
+    ensures answered { Answered text.now result }
+    ensures text_value { text.now ≡ text.now }
+{
+    match draw_text(text, table) {
+        Ok(answer) => answer,
+        Err(refusal) => refused(refusal),
+    }
 }

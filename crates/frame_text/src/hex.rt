@@ -1,55 +1,48 @@
 // Lowercase hexadecimal digits: their numbers, and the digits of numbers.
 ghost use Rattle.std.specs.Prelude.{◌≡◌, ◌<◌, ◌≤◌, length};
 ghost use Rattle.integers.specs.Tests.{every};
-ghost use Rattle.frame_text.specs.Digits.{digit_char, digit_value, is_digit, hex, hex_value};
+ghost use Rattle.frame_text.specs.Digits.{digit_char, digit_or_none, is_digit, hex, hex_value};
 ghost use Rattle.frame_text.specs.Frames.{coordinate_width};
 ghost use Rattle.frame_text.specs.Over.{over};
 
+// The digits, in the order of their numbers.
+const DIGITS: [u8; 16] = *b"0123456789abcdef";
+
 // Digits are worth 0 to 15.
-const BASE: u64 = 16;
+const BASE: u32 = 16;
 
-// And this is answered of a byte that is no digit.
-const NO_DIGIT: u32 = 16;
-
-pub fn digit_value(b: u8) -> u32
-    ensures { result ≡ digit_value b }
+// The number of a digit. No other byte has one.
+#[tactic(auto, using(crate::proofs::Laws::Digits::decimal_digit, crate::proofs::Laws::Digits::letter_digit, crate::proofs::Laws::Digits::no_digit_low, crate::proofs::Laws::Digits::no_digit_between, crate::proofs::Laws::Digits::no_digit_high))]
+pub fn digit_value(b: u8) -> Option<u32>
+    ensures { result ≡ digit_or_none b }
 {
-    if b < b'0' {
-        return NO_DIGIT;
+    match b {
+        b'0'..=b'9' => Some((b - b'0') as u32),
+        b'a'..=b'f' => Some((b - b'a') as u32 + 10),
+        _ => None,
     }
-    if b <= b'9' {
-        return (b - b'0') as u32;
-    }
-    if b < b'a' {
-        return NO_DIGIT;
-    }
-    if b <= b'f' {
-        return (b - b'a') as u32 + 10;
-    }
-    NO_DIGIT
+}
+
+fn is_digit(b: u8) -> bool
+    ensures { result ≡ is_digit b }
+{
+    digit_value(b).is_some()
 }
 
 pub fn are_digits(bytes: &[u8]) -> bool
     ensures { result ≡ every is_digit bytes.now }
 {
-    let mut i = 0;
-    while i < bytes.len() {
-        if digit_value(bytes[i]) == NO_DIGIT {
-            return false;
-        }
-        i += 1;
-    }
-    true
+    bytes.iter().all(|&b| is_digit(b))
 }
 
-// No number of a frame has more than four digits.
+// No number of a frame has more than four digits. A byte that is no digit would count for the base, as `hex_value` has it.
 pub fn value_of(digits: &[u8]) -> u32
     requires { length digits.now ≤ coordinate_width }
     ensures { result ≡ hex_value digits.now }
 {
     let mut v = 0;
-    for i in 0..digits.len() {
-        v = 16 * v + digit_value(digits[i]);
+    for &b in digits {
+        v = BASE * v + digit_value(b).unwrap_or(BASE);
     }
     v
 }
@@ -58,11 +51,7 @@ pub fn digit_char(n: u64) -> u8
     requires { n < 16 }
     ensures { result ≡ digit_char n }
 {
-    if n < 10 {
-        b'0' + n as u8
-    } else {
-        b'a' + (n - 10) as u8
-    }
+    DIGITS[n as usize]
 }
 
 // The last `width` digits of a number over the start of a slice. The last digit comes first: it is the remainder by 16, and the others are those of the
@@ -71,11 +60,10 @@ pub fn put_hex(out: &mut [u8], value: u64, width: usize)
     requires { width ≤ length out.old }
     ensures { out.new ≡ over (hex width value) out.old }
 {
+    let base = BASE as u64;
     let mut left = value;
-    let mut n = width;
-    while 0 < n {
-        n -= 1;
-        out[n] = digit_char(left % BASE);
-        left /= BASE;
+    for n in (0..width).rev() {
+        out[n] = digit_char(left % base);
+        left /= base;
     }
 }

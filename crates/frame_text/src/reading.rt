@@ -1,9 +1,9 @@
 // A frame's text: question 11, and what a text that passes it says.
-ghost use Rattle.std.specs.Prelude.{◌≡◌, ◌*◌, ◌≤◌, true, length};
+ghost use Rattle.std.specs.Prelude.{◌≡◌, ◌*◌, ◌≤◌, true, length, MatchOption};
 ghost use Rattle.frame_text.specs.Over.{over};
 ghost use Rattle.frame_text.specs.Frames.{coordinate_width};
 ghost use Rattle.frame_text.specs.Reading.{is_head, is_contour, is_frame, coordinates, frame_of};
-ghost use Rattle.frame_text.specs.Inner.{line_length, is_body, body_coordinates, body_counts, size_of, Readable};
+ghost use Rattle.frame_text.specs.Inner.{line_length, FirstLine, is_body, body_coordinates, body_counts, size_of, Readable};
 
 use super::TEXT_LIMIT;
 use super::hex::{are_digits, value_of};
@@ -35,18 +35,12 @@ pub struct Size {
 
 // ---- question 11
 
-// How many bytes there are before the first end of a line.
-fn line_length(rest: &[u8]) -> usize
-    ensures { result ≡ line_length rest.now }
+// The first line of a text, and what comes after its end. A line that is not closed is none.
+fn next_line(text: &[u8]) -> Option<(&[u8], &[u8])>
+    ensures { MatchOption result (line_length text.now ≡ length text.now) (λ p. FirstLine text.now p.0.now p.1.now) }
 {
-    let mut n = 0;
-    while n < rest.len() {
-        if rest[n] == b'\n' {
-            return n;
-        }
-        n += 1;
-    }
-    n
+    let n = text.iter().position(|&b| b == b'\n')?;
+    Some((&text[..n], &text[n + 1..]))
 }
 
 fn is_head(line: &[u8]) -> bool
@@ -58,27 +52,20 @@ fn is_head(line: &[u8]) -> bool
 fn is_contour(line: &[u8]) -> bool
     ensures { result ≡ is_contour line.now }
 {
-    if line.len() == 0 {
-        return false;
-    }
-    line.len() % POINT_WIDTH == 0 && are_digits(line)
+    !line.is_empty() && line.len() % POINT_WIDTH == 0 && are_digits(line)
 }
 
 fn are_contours(body: &[u8]) -> bool
     ensures { result ≡ is_body body.now }
 {
-    let mut from = 0;
-    while from < body.len() {
-        let to = from + line_length(&body[from..]);
-        if to == body.len() {
+    let mut rest = body;
+    while let Some((line, after)) = next_line(rest) {
+        if !is_contour(line) {
             return false;
         }
-        if !is_contour(&body[from..to]) {
-            return false;
-        }
-        from = to + 1;
+        rest = after;
     }
-    true
+    rest.is_empty()
 }
 
 // Question 11.
@@ -88,14 +75,10 @@ pub fn is_frame(text: &[u8]) -> bool
     if text.len() > TEXT_LIMIT {
         return false;
     }
-    let n = line_length(text);
-    if n == text.len() {
+    let Some((head, body)) = next_line(text) else {
         return false;
-    }
-    if !is_head(&text[..n]) {
-        return false;
-    }
-    are_contours(&text[n + 1..])
+    };
+    is_head(head) && are_contours(body)
 }
 
 // ---- what a frame says
@@ -119,10 +102,9 @@ fn read_coordinates(line: &[u8], points: &mut [i64])
     requires { length line.now ≤ coordinate_width * length points.old }
     ensures { points.new ≡ over (coordinates line.now) points.old }
 {
-    for i in 0..line.len() / COORDINATE_WIDTH {
-        let from = COORDINATE_WIDTH * i;
-        let to = from + COORDINATE_WIDTH;
-        points[i] = value_of(&line[from..to]) as i64;
+    // Places are counted: nothing is known of points that a `zip` with `iter_mut` has written.
+    for (i, digits) in line.chunks_exact(COORDINATE_WIDTH).enumerate() {
+        points[i] = value_of(digits) as i64;
     }
 }
 
@@ -133,20 +115,17 @@ pub fn read_contours(body: &[u8], points: &mut [i64], counts: &mut [u32]) -> Siz
     ensures points_after { points.new ≡ over (body_coordinates body.now) points.old }
     ensures counts_after { counts.new ≡ over (body_counts body.now) counts.old }
 {
-    let mut p = 0;
-    let mut c = 0;
-    let mut from = 0;
-    while from < body.len() {
-        let n = line_length(&body[from..]);
-        let to = from + n;
-        read_coordinates(&body[from..to], &mut points[p..]);
-        counts[c] = (n / POINT_WIDTH) as u32;
-        p += n / COORDINATE_WIDTH;
-        c += 1;
-        from = to + 1;
+    let mut size = Size {
+        coordinates: 0,
+        contours: 0,
+    };
+    let mut rest = body;
+    while let Some((line, after)) = next_line(rest) {
+        read_coordinates(line, &mut points[size.coordinates..]);
+        counts[size.contours] = (line.len() / POINT_WIDTH) as u32;
+        size.coordinates += line.len() / COORDINATE_WIDTH;
+        size.contours += 1;
+        rest = after;
     }
-    Size {
-        coordinates: p,
-        contours: c,
-    }
+    size
 }

@@ -4,7 +4,6 @@
 --   root-inside, root_is        the root is in the table, and is the figure of level 0, as it is read
 --   shallower                   a level above
 --   cell_above                  a cell's parent
---   cell_refinable              a cell, from its parent's figure
 use mathlib.Core.Path.{◌≡◌, sym, ◌∙◌}
 use mathlib.Core.List.{List}
 use Prim.Native.Nat.{ℕ, suc, ◌/◌, ◌<◌, ◌≤◌}
@@ -18,7 +17,6 @@ use Rattle.haar.specs.Cells.{children}
 use Rattle.haar.specs.Table.{stored}
 use Rattle.haar.specs.Plane.{dimensions, figure_in}
 use Rattle.haar.specs.Drawable.{Drawable, DrawableCell}
-use Rattle.haar.specs.Pairs.{Refinable}
 use Rattle.haar.proofs.Laws.Quarters.{figure-top}
 
 pub root-inside : {entries : List ℤ} {level : ℕ} → Drawable entries level → 0 < length entries
@@ -37,7 +35,3 @@ shallower d h = record {
 pub cell_above : {entries : List ℤ} {level cx cy : ℕ} → DrawableCell entries (suc level) cx cy → DrawableCell entries level (cx / 2) (cy / 2)
 cell_above {level = level} d =
     record { drawable = shallower d.drawable (omega arith); x_below = omega (arith, d.x_below, pow-succ' 2 level); y_below = omega (arith, d.y_below, pow-succ' 2 level) }
-
-pub cell_refinable : {entries : List ℤ} {level cx cy : ℕ} {f : ℤ} → DrawableCell entries (suc level) cx cy
-    → f ≡ figure_in entries level (cx / 2) (cy / 2) → Refinable entries level (cx / 2) cy f
-cell_refinable d e = record { drawable = d.drawable; x_below = (cell_above d).x_below; y_below = d.y_below; is_figure = e }

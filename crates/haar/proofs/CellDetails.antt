@@ -22,6 +22,7 @@ use Rattle.integers.specs.HalfSign.{half_sign}
 use Rattle.haar.specs.Cells.{children}
 use Rattle.haar.specs.Table.{index, stored}
 use Rattle.haar.specs.Plane.{dimensions, h_detail, v_detail, d_detail, at, figure_at, figure_in}
+use Rattle.haar.specs.Drawable.{Drawable}
 use Rattle.haar.specs.Pairs.{Refinable, scale_limit, parent_limit, pair_of, IsPair}
 use Rattle.haar.proofs.Laws.Layout.{index_plane, index_high}
 use Rattle.haar.proofs.Laws.Quarters.{quarter_figure, figure-quarter}
@@ -32,9 +33,9 @@ pub record CellDetails (entries : List ℤ) (first : ℕ) : Type 0 where
   pub inside : first + 2 < length entries
   pub few : first + 2 < children dimensions ^ greatest_depth
 
-module _ {entries : List ℤ} {level x cy : ℕ} {f : ℤ} (r : Refinable entries level x cy f) where
+module _ {entries : List ℤ} {level x cy : ℕ} {f : ℤ} (d : Drawable entries (suc level)) (r : Refinable entries level x cy f) where
   scale_few : children dimensions ^ level ≤ scale_limit
-  scale_few = let h : level ≤ greatest_depth - 1 = omega (arith, r.drawable.shallow) in pow-le-pow_right {n = children dimensions} (omega arith) h
+  scale_few = let h : level ≤ greatest_depth - 1 = omega (arith, d.shallow) in pow-le-pow_right {n = children dimensions} (omega arith) h
 
   pub half_row : cy / 2 < 2 ^ level
   half_row = omega (arith, pow-succ' 2 level, r.y_below)
@@ -44,15 +45,15 @@ module _ {entries : List ℤ} {level x cy : ℕ} {f : ℤ} (r : Refinable entrie
       let last = index_high {n = dimensions} {j = level} {cell = at x (cy / 2)} {e = d_detail} (record { inside = (r.x_below, (half_row, tt)); first = omega arith; last = omega arith }) in
       let b : first + 2 < children dimensions ^ suc level = omega (arith, e, index_plane level x (cy / 2) h_detail, index_plane level x (cy / 2) d_detail) in
       record {
-        inside = let h = r.drawable.long in omega arith;
-        few = omega (arith, pow-le-pow_right {n = children dimensions} (omega arith) r.drawable.shallow);
+        inside = let h = d.long in omega arith;
+        few = omega (arith, pow-le-pow_right {n = children dimensions} (omega arith) d.shallow);
       }
 
   pub parent_within : Within (pos parent_limit) f
   parent_within =
       within_is refl (sym r.is_figure)
       (within_le (pos-≤ℤ (mul-le-mul_right entry_limit scale_few))
-      (figure_in_range r.drawable.in_range_lem level x (cy / 2) r.x_below half_row))
+      (figure_in_range d.in_range_lem level x (cy / 2) r.x_below half_row))
 
   pub scale_within : {scale : ℤ} → scale ≡ pos (children dimensions ^ level) → Within (pos scale_limit) scale
   scale_within e = within_is refl (sym e) (within_le (pos-≤ℤ scale_few) (within_self (nonneg _)))

@@ -5,21 +5,22 @@
 --   level_step                                two rows more
 --   level_entry                               all: each figure, or what is made of it, is in its place
 --   root_figures                              the root is the figure of level 0
---   below_drawable                            what a level above the one that is asked for asks
+--   figures_parents                           the figures of a level, with room below them, are those of parents
+--   drawn_picture                             in a list with as many places as the level has cells
 use mathlib.Core.Path.{◌≡◌, ◌∙◌, ap, ap₂, subst}
 use mathlib.Core.List.{List}
 use Prim.Native.Nat.{ℕ, suc, ◌+◌, ◌*◌, ◌-◌, ◌/◌, ◌%◌, ◌^◌, ◌<◌, ◌≤◌}
 use native.Mathlib.Omega.{arith}
 use native.Mathlib.Decide.{dec_lt}
-use native.Mathlib.Nat.{pow-zero, pow-succ', pow-le-pow_right, mul-le-mul_right}
+use native.Mathlib.Nat.{pow-zero, pow-succ', mul-le-mul_right}
 use lib.ListN.{length, get_or, set}
 use lib.Seq.{get_or-set_same}
 use lib.IntN.{ℤ, pos}
 use Rattle.haar.specs.Cells.{children}
-use Rattle.haar.specs.Plane.{dimensions, figure_in}
-use Rattle.haar.specs.Drawable.{Drawable}
-use Rattle.haar.specs.Levels.{HasFigures, DrawableBelow, RowsBelow}
-use Rattle.haar.proofs.Above.{shallower}
+use Rattle.haar.specs.Table.{stored}
+use Rattle.haar.specs.Plane.{dimensions, figure_in, picture_in}
+use Rattle.haar.specs.Levels.{HasDrawn, HasFigures, HasParents, RowsBelow}
+use Rattle.haar.proofs.Laws.Pictures.{picture_of_entries}
 
 module _ {A : Type 0} (g : ℤ → A) (o : A) (entries : List ℤ) (level : ℕ) (before : List A) where
   pub record LevelBelow (l : List A) (y : ℕ) : Type 0 where
@@ -60,9 +61,9 @@ module _ {A : Type 0} {g : ℤ → A} {o : A} {entries : List ℤ} {level : ℕ}
       later : {j : ℕ} → (j < y → ⊥) → y ≤ j
       later s = omega arith
 
-  pub level_entry : {l : List A} {y : ℕ} → y ≡ 0 → LevelBelow g o entries level before l y → (cx cy : ℕ) → cx < 2 ^ suc level → cy < 2 ^ suc level
+  pub level_entry : {l : List A} {y : ℕ} → LevelBelow g o entries level before l y → y ≡ 0 → (cx cy : ℕ) → cx < 2 ^ suc level → cy < 2 ^ suc level
       → get_or l (cy * 2 ^ suc level + cx) o ≡ g (figure_in entries (suc level) cx cy)
-  level_entry {l} e b cx cy h k =
+  level_entry {l} b e cx cy h k =
       let p = pow-succ' 2 level in
       elim (dec_lt (cy % 2) 1) [
         | yes s ↦
@@ -87,6 +88,10 @@ root_figures {root = root} l h e = record {
       ∙ get_or-set_same l 0 root (pos 0) h ∙ e x y;
 }
 
-pub below_drawable : {entries : List ℤ} {level j room : ℕ} → Drawable entries level → j < level → children dimensions ^ level ≤ room → DrawableBelow entries j room
-below_drawable d h k =
-    record { drawable = shallower d h; enough = omega (arith, pow-le-pow_right {n = children dimensions} (omega arith) h) }
+pub figures_parents : {entries l : List ℤ} {level : ℕ} → children dimensions ^ suc level ≤ length l → HasFigures entries level l → HasParents entries level l
+figures_parents {level = level} h f = record { enough = omega (arith, pow-succ' (children dimensions) level); figures = f }
+
+-- a list with a place for each cell, and what is drawn of it in its place, is the picture
+pub drawn_picture : {A : Type 0} {g : ℤ → A} {o : A} {entries : List ℤ} {level : ℕ} {l : List A} → HasDrawn g o entries level l
+    → length l ≡ children dimensions ^ level → l ≡ picture_in g entries level
+drawn_picture {g = g} {o} {entries} {level} {l} d e = picture_of_entries o g (stored dimensions entries) level l e d.entry

@@ -3,23 +3,24 @@
 -- Main results
 --   RowPlaces, row-places                     where the rows stand
 --   NextCell, next_cell                       which cell is next
+--   parent_inside, parent_is, parent_refinable  its figure
 --   rows_step                                 one cell's children more are drawn
-use mathlib.Core.Path.{◌≡◌, ◌∙◌, ap, subst⁻¹, subst₂}
+use mathlib.Core.Path.{◌≡◌, sym, ◌∙◌, ap, ap₂, subst⁻¹, subst₂}
 use mathlib.Core.List.{List}
 use mathlib.Core.Logic.{◌≢◌}
-use Prim.Native.Nat.{ℕ, suc, ◌+◌, ◌*◌, ◌-◌, ◌^◌, ◌<◌, ◌≤◌}
+use Prim.Native.Nat.{ℕ, suc, ◌+◌, ◌*◌, ◌-◌, ◌/◌, ◌^◌, ◌<◌, ◌≤◌}
 use native.Mathlib.Omega.{arith}
 use native.Mathlib.Decide.{dec_lt}
 use native.Mathlib.Nat.{pow-succ', mul-le-mul, mul-le-mul_right}
 use lib.ListN.{length, get_or, set, length-set}
 use lib.Seq.{get_or-set_same, get_or-set_other}
 use lib.Pow.{pow_mono}
-use lib.IntN.{ℤ}
-use Rattle.integers.specs.Units.{greatest_side}
+use lib.IntN.{ℤ, pos}
+use Rattle.integers.specs.Units.{greatest_depth, greatest_side}
 use Rattle.haar.specs.Cells.{children}
 use Rattle.haar.specs.Plane.{dimensions, figure_in}
-use Rattle.haar.specs.Pairs.{IsPair}
-use Rattle.haar.specs.Levels.{put_pair, DrawableBelow, RowsBelow}
+use Rattle.haar.specs.Pairs.{Refinable, IsPair}
+use Rattle.haar.specs.Levels.{put_pair, KeepsParents, RowParents, RowsBelow}
 use Rattle.haar.proofs.Laws.Cells.{level_square}
 use Rattle.haar.specs.declared.Pair.{Pair}
 
@@ -46,13 +47,13 @@ pub record RowPlaces (n y room : ℕ) : Type 0 where
   pub parents : y * n + n ≤ n * n
   pub few : 4 * (y * n) + 4 * n ≤ greatest_side * greatest_side
 
-pub row-places : {entries : List ℤ} {level room n y : ℕ} → DrawableBelow entries level room → n ≡ 2 ^ level → y < 2 ^ level → RowPlaces n y room
-row-places {entries} {level} {room} {n} {y} d e h =
-    let m : 2 * n ≤ greatest_side = omega (arith, pow-succ' 2 level, pow_mono d.drawable.shallow) in
+pub row-places : {level room n y : ℕ} → level < greatest_depth → children dimensions ^ suc level ≤ room → n ≡ 2 ^ level → y < 2 ^ level → RowPlaces n y room
+row-places {level} {room} {n} {y} d r e h =
+    let m : 2 * n ≤ greatest_side = omega (arith, pow-succ' 2 level, pow_mono d) in
     let q : y * n + n ≤ n * n = omega (arith, mul-le-mul_right n (let k : suc y ≤ n = omega arith in k)) in
     let s : 4 * (n * n) ≡ children dimensions ^ suc level = ap (λ m. 4 * (m * m)) e ∙ ap (λ k. 4 * k) (level_square level) ∙ omega (arith, pow-succ' 4 level) in
     let t = mul-le-mul m m in
-    record { across = m; row = omega arith; parents = q; inside = omega (arith, d.enough); few = omega arith }
+    record { across = m; row = omega arith; parents = q; inside = omega arith; few = omega arith }
 
 -- the cell before cell x of the row is the next
 pub record NextCell (n y x room : ℕ) : Type 0 where
@@ -60,9 +61,32 @@ pub record NextCell (n y x room : ℕ) : Type 0 where
   pub left : 0 < x
   pub within : x ≤ n
 
-pub next_cell : {A : Type 0} {g : ℤ → A} {o : A} {entries : List ℤ} {level n y x : ℕ} {before l : List A} → RowPlaces n y (length before)
-    → RowsBelow g o entries level y before l x → 0 < x → x ≤ n → NextCell n y x (length l)
-next_cell {n = n} {y} p r h k = record { places = subst⁻¹ (RowPlaces n y) r.same_length p; left = h; within = k }
+pub next_cell : {A : Type 0} {g : ℤ → A} {o : A} {entries : List ℤ} {level n y x : ℕ} {before l : List A} → level < greatest_depth
+    → children dimensions ^ suc level ≤ length before → n ≡ 2 ^ level → y < 2 ^ level → RowsBelow g o entries level y before l x → 0 < x → x ≤ n → NextCell n y x (length l)
+next_cell {n = n} {y} d m e b r h k = record { places = subst⁻¹ (RowPlaces n y) r.same_length (row-places d m e b); left = h; within = k }
+
+-- its figure is still where it was
+module _ {D A : Type 0} {shade : D → ℤ → A} {parents : D → List A → List ℤ} (keeps : KeepsParents shade parents) (d : D)
+    {entries : List ℤ} {level n y x room : ℕ} {before l : List A} (p : RowParents entries level y (parents d before))
+    (r : RowsBelow (shade d) (shade d (pos 0)) entries level y before l x) (e : n ≡ 2 ^ level) (next : NextCell n y x room) where
+  pub parent_inside : y * n + (x - 1) < length (parents d l)
+  parent_inside =
+      omega (arith, next.left, next.within, next.places.parents, p.enough, ap₂ ◌*◌ e e ∙ level_square level, keeps.same_length d l before r.same_length)
+
+  pub parent_is : {f : ℤ} → f ≡ get_or (parents d l) (y * n + (x - 1)) (pos 0) → f ≡ figure_in entries level (x - 1) y
+  parent_is h =
+      let here : y * n + (x - 1) ≡ y * 2 ^ level + (x - 1) = ap (λ m. y * m + (x - 1)) e in
+      h ∙ ap (λ i. get_or (parents d l) i (pos 0)) here
+      ∙ keeps.same_figure d l before (y * 2 ^ level + (x - 1)) (r.low _ (omega (arith, next.left)))
+      ∙ p.entry (x - 1) (omega (arith, next.left, next.within))
+
+  pub parent_refinable : {f : ℤ} (cy : ℕ) → cy / 2 ≡ y → f ≡ figure_in entries level (x - 1) y
+      → Refinable entries level (x - 1) cy f
+  parent_refinable cy h k = record {
+    x_below = omega (arith, next.left, next.within);
+    y_below = omega (arith, p.y_below, pow-succ' 2 level);
+    is_figure = k ∙ ap (figure_in entries level (x - 1)) (sym h);
+  }
 
 module _ {A : Type 0} {g : ℤ → A} {o : A} {entries : List ℤ} {level y : ℕ} {before : List A} where
   -- one cell's children: a and b in the upper row, at k, and c and d below them, at m

@@ -9,12 +9,10 @@ use Rattle.integers.specs.Units.{greatest_depth, entry_limit}
 use Rattle.integers.specs.Within.{Within}
 use Rattle.haar.specs.Cells.{children}
 use Rattle.haar.specs.Plane.{dimensions, figure_in}
-use Rattle.haar.specs.Drawable.{Drawable}
 use Rattle.haar.specs.declared.Pair.{Pair}
 
 -- cell (x, cy / 2), two of whose children are in row cy of the next level, and its figure
 pub record Refinable (entries : List ℤ) (level x cy : ℕ) (f : ℤ) : Type 0 where
-  pub drawable : Drawable entries (suc level)
   pub x_below : x < 2 ^ level
   pub y_below : cy < 2 ^ suc level
   pub is_figure : f ≡ figure_in entries level x (cy / 2)

@@ -13,11 +13,8 @@ const FULL_GREY: u8 = 255;
 fn held(figure: i64, full: usize) -> usize
     ensures { SameGrey figure full result }
 {
-    let ink = integers::magnitude(figure) as usize;
-    if full <= ink {
-        return full;
-    }
-    ink
+    let ink = figure.unsigned_abs() as usize;
+    ink.min(full)
 }
 
 // The grey of a figure on a tile of side 2^depth. The magnitude is held at the full figure first, which gives the same as to round and then to hold; what

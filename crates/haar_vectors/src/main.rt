@@ -9,13 +9,12 @@
 use std::io;
 use vector_print::{INPUT_LIMIT, read_full};
 
+mod number;
 mod read;
-mod show;
 mod table;
 
 fn main(rt: HostRuntime) -> io::Result<()> {
     let mut buf = [0u8; INPUT_LIMIT];
     let n = read_full(&mut rt.stdin(), &mut buf);
-    let mut table = table::blank();
-    read::read_all(&mut rt.stdout(), &buf[..n], &mut table)
+    read::read_all(&mut rt.stdout(), rt.alloc(), &buf[..n])
 }

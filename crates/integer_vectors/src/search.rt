@@ -2,7 +2,6 @@
 // 02's "one more than the least place out of range, or all of them where there is none".
 use integers::search_within;
 use std::io::{Result, Write};
-use vector_print::{named, words};
 
 // 2^40, the greatest entry that question 9 lets pass.
 const LIMIT: i64 = 1 << 40;
@@ -11,55 +10,49 @@ const LIMIT: i64 = 1 << 40;
 const ENTRIES: usize = 4096;
 
 fn show<W: Write>(out: &mut W, numbers: &[i64]) -> Result<()> {
-    let found = search_within(numbers, -LIMIT, LIMIT);
-    named(out, b"looked at", found.looked as u64)?;
-    if found.within {
-        words(out, b", within\n")
-    } else {
-        words(out, b", not within\n")
+    match search_within(numbers, -LIMIT, LIMIT) {
+        None => writeln!(out, "looked at {}, within", numbers.len()),
+        Some(i) => writeln!(out, "looked at {}, not within", i + 1),
     }
 }
 
-fn small<W: Write>(out: &mut W) -> Result<()> {
-    show(out, &[])?;
-    show(out, &[0])?;
-    show(out, &[LIMIT])?;
-    show(out, &[-LIMIT])?;
-    show(out, &[LIMIT + 1])?;
-    show(out, &[-LIMIT - 1])?;
-    show(out, &[LIMIT, -LIMIT, 0])?;
-    // the same count, and not all within
-    show(out, &[LIMIT, -LIMIT, LIMIT + 1])?;
-    // the least place of several, and not the last
-    show(out, &[0, -LIMIT - 1, 0, LIMIT + 1, 0])?;
-    show(out, &[9223372036854775807, -9223372036854775808])
-}
+// Lists of a few numbers. The seventh and the eighth have the same count, and only the seventh is all within; of the ninth the least place of several is
+// asked for, and that is not the last.
+const SMALL: [&[i64]; 10] = [
+    &[],
+    &[0],
+    &[LIMIT],
+    &[-LIMIT],
+    &[LIMIT + 1],
+    &[-LIMIT - 1],
+    &[LIMIT, -LIMIT, 0],
+    &[LIMIT, -LIMIT, LIMIT + 1],
+    &[0, -LIMIT - 1, 0, LIMIT + 1, 0],
+    &[i64::MAX, i64::MIN],
+];
 
-// A number out of range at ever lower places, those above staying as they are.
-fn table<W: Write>(out: &mut W) -> Result<()> {
-    let mut numbers = [LIMIT; ENTRIES];
-    show(out, &numbers)?;
-    numbers[4095] = LIMIT + 1;
-    show(out, &numbers)?;
-    numbers[4094] = -LIMIT - 1;
-    show(out, &numbers)?;
-    numbers[2048] = LIMIT + 1;
-    show(out, &numbers)?;
-    numbers[512] = -LIMIT - 1;
-    show(out, &numbers)?;
-    numbers[511] = LIMIT + 1;
-    show(out, &numbers)?;
-    numbers[64] = -LIMIT - 1;
-    show(out, &numbers)?;
-    numbers[63] = LIMIT + 1;
-    show(out, &numbers)?;
-    numbers[1] = -LIMIT - 1;
-    show(out, &numbers)?;
-    numbers[0] = LIMIT + 1;
-    show(out, &numbers)
-}
+// Ever lower places of a table, at which a number out of range is put, those above staying as they are.
+const PLACES: [(usize, i64); 9] = [
+    (4095, LIMIT + 1),
+    (4094, -LIMIT - 1),
+    (2048, LIMIT + 1),
+    (512, -LIMIT - 1),
+    (511, LIMIT + 1),
+    (64, -LIMIT - 1),
+    (63, LIMIT + 1),
+    (1, -LIMIT - 1),
+    (0, LIMIT + 1),
+];
 
 pub fn show_all<W: Write>(out: &mut W) -> Result<()> {
-    small(out)?;
-    table(out)
+    for numbers in SMALL {
+        show(out, numbers)?;
+    }
+    let mut table = [LIMIT; ENTRIES];
+    show(out, &table)?;
+    for (i, number) in PLACES {
+        table[i] = number;
+        show(out, &table)?;
+    }
+    Ok(())
 }

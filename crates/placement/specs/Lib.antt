@@ -10,3 +10,4 @@ pub mod Ready
 pub mod Exact
 -- question 12 in words
 pub mod Placeable
+pub mod Coordinates

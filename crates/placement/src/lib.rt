@@ -11,15 +11,18 @@
 // 64 bits; that shuts out what is not finite too.
 #![tactic(auto)]
 
-ghost use Rattle.std.specs.Prelude.{◌≡◌, ◌+◌, ◌*◌, ◌%◌, ◌<◌, ◌≤◌, true, ◌&&◌, [], ◌∷◌, length, pos, slice_index_or};
+ghost use Rattle.std.specs.Prelude.{◌≡◌, ◌*◌, ◌≤◌, true, ◌&&◌, [], ◌∷◌, MatchOption};
 ghost use Rattle.integers.specs.Units.{parts_per_step, factor_limit, offset_limit, placed_limit};
-ghost use Rattle.integers.specs.Tests.{every, between};
+ghost use Rattle.integers.specs.Tests.{between};
 ghost use Rattle.std.specs.Float.{binary64};
 ghost use Rattle.std.specs.Float.Ieee.{mul};
 ghost use Rattle.placement.specs.Parts.{Value, parts_of, is_multiple, Inside, InParts, nearest, per_step};
-ghost use Rattle.placement.specs.Placed.{parts_at, across_of, down_of, placed, is_moving, row_usable, floats_usable, placeable};
-ghost use Rattle.placement.specs.Ready.{Ready};
+ghost use Rattle.placement.specs.Placed.{parts_at, across_of, down_of, is_moving, row_usable, floats_usable, placeable};
+ghost use Rattle.placement.specs.Ready.{Ready, TurnsAs};
 ghost use Rattle.placement.specs.Exact.{turned as machine_turned};
+ghost use Rattle.placement.specs.declared.Placement.TheVariants.{None as Unmoved};
+
+pub mod points;
 
 // Parts to a step, as a float: a power of two, so that a product with it is exact as long as it is in range.
 const PARTS_PER_STEP: f64 = 65536.0;
@@ -59,6 +62,38 @@ pub enum Placement {
     Turn(Matrix),
 }
 
+// One row of a turn.
+#[derive(Clone, Copy)]
+struct Row {
+    a: f64,
+    b: f64,
+    c: f64,
+}
+
+impl Matrix {
+    // The row that x comes from.
+    fn across(self) -> Row
+        ensures { result ≡ record { a = self.a; b = self.b; c = self.c } }
+    {
+        Row {
+            a: self.a,
+            b: self.b,
+            c: self.c,
+        }
+    }
+
+    // The row that y comes from.
+    fn down(self) -> Row
+        ensures { result ≡ record { a = self.d; b = self.e; c = self.f } }
+    {
+        Row {
+            a: self.d,
+            b: self.e,
+            c: self.f,
+        }
+    }
+}
+
 #[derive(Clone, Copy)]
 pub struct Point {
     pub x: i64,
@@ -82,12 +117,10 @@ fn is_multiple(x: f64, limit: u64) -> bool
     ensures { result ≡ is_multiple limit x }
 {
     let bound = limit as f64;
-    if -bound <= x {
-        if x <= bound {
-            let parts = in_parts(x);
-            let whole = std::num::truncating_f64_to_i64(parts);
-            return parts == (whole as f64);
-        }
+    if -bound <= x && x <= bound {
+        let parts = in_parts(x);
+        let whole = std::num::truncating_f64_to_i64(parts);
+        return parts == (whole as f64);
     }
     false
 }
@@ -106,11 +139,11 @@ fn is_offset(x: f64) -> bool
     is_multiple(x, OFFSET_LIMIT)
 }
 
-// May a, b and c be a row of a turn?
-fn is_row(a: f64, b: f64, c: f64) -> bool
-    ensures { result ≡ row_usable a b c }
+// May it be a row of a turn?
+fn is_row(r: Row) -> bool
+    ensures { result ≡ row_usable r.a r.b r.c }
 {
-    is_factor(a) && (is_factor(b) && is_offset(c))
+    is_factor(r.a) && is_factor(r.b) && is_offset(r.c)
 }
 
 // Is every float of a placement a multiple of 1/65,536 in its range?
@@ -121,7 +154,7 @@ fn are_floats_usable(p: Placement) -> bool
         Placement::None => true,
         Placement::Shift(u, v) => is_offset(u) && is_offset(v),
         Placement::Scale(s) => is_factor(s),
-        Placement::Turn(m) => is_row(m.a, m.b, m.c) && is_row(m.d, m.e, m.f),
+        Placement::Turn(m) => is_row(m.across()) && is_row(m.down()),
     }
 }
 
@@ -129,33 +162,26 @@ fn are_floats_usable(p: Placement) -> bool
 fn is_moving(p: Placement) -> bool
     ensures { result ≡ is_moving p }
 {
-    match p {
-        Placement::None => false,
-        Placement::Shift(_, _) => true,
-        Placement::Scale(_) => true,
-        Placement::Turn(_) => true,
-    }
+    !matches!(p, Placement::None)
 }
 
 // Question 12: are the floats as they must be, and the points where they may be moved from?
 pub fn is_placeable(p: Placement, points: &[i64]) -> bool
     ensures { result ≡ placeable p points.now }
 {
-    if !is_moving(p) {
-        return true;
-    }
-    are_floats_usable(p) && integers::all_within(points, -MOVABLE_LIMIT, MOVABLE_LIMIT - 1)
+    !is_moving(p)
+        || are_floats_usable(p) && integers::all_within(points, -MOVABLE_LIMIT, MOVABLE_LIMIT - 1)
 }
 
 // ---- a point as placed
 
 // a × x + b × y + c. Each product and each sum is exact.
-fn turned(a: f64, b: f64, c: f64, x: i64, y: i64) -> f64
-    requires { Ready a b c x y }
-    ensures value { result ≡ machine_turned a b c x y }
-    ensures value_2 { Value result (parts_at a b c x y) parts_per_step }
+fn turned(r: Row, x: i64, y: i64) -> f64
+    requires { Ready r.a r.b r.c x y }
+    ensures value { result ≡ machine_turned r.a r.b r.c x y }
+    ensures value_2 { Value result (parts_at r.a r.b r.c x y) parts_per_step }
 {
-    a * (x as f64) + b * (y as f64) + c
+    r.a * (x as f64) + r.b * (y as f64) + r.c
 }
 
 // v to the nearest step, halves towards the larger.
@@ -168,11 +194,11 @@ fn nearest_step(v: f64) -> i64
 }
 
 // One coordinate of a turned point.
-fn coordinate(a: f64, b: f64, c: f64, x: i64, y: i64) -> i64
-    requires { Ready a b c x y }
-    ensures { result ≡ nearest (parts_at a b c x y) }
+fn coordinate(r: Row, x: i64, y: i64) -> i64
+    requires { Ready r.a r.b r.c x y }
+    ensures { result ≡ nearest (parts_at r.a r.b r.c x y) }
 {
-    nearest_step(turned(a, b, c, x, y))
+    nearest_step(turned(r, x, y))
 }
 
 // A point, turned.
@@ -181,91 +207,51 @@ fn turned_point(m: Matrix, x: i64, y: i64) -> Point
     ensures { (result.x ≡ nearest (parts_at m.a m.b m.c x y)) × (result.y ≡ nearest (parts_at m.d m.e m.f x y)) }
 {
     Point {
-        x: coordinate(m.a, m.b, m.c, x, y),
-        y: coordinate(m.d, m.e, m.f, x, y),
+        x: coordinate(m.across(), x, y),
+        y: coordinate(m.down(), x, y),
     }
 }
 
-// Where a point goes. A shift and a scale are turns whose other numbers are 1 and 0.
+// The turn that a placement is, where it moves points. A shift and a scale are turns whose other numbers are 1 and 0.
+fn turn_of(p: Placement) -> Option<Matrix>
+    ensures { MatchOption result (p ≡ Unmoved) (TurnsAs p) }
+{
+    match p {
+        Placement::None => None,
+        Placement::Shift(u, v) => Some(Matrix {
+            a: 1.0,
+            b: 0.0,
+            c: u,
+            d: 0.0,
+            e: 1.0,
+            f: v,
+        }),
+        Placement::Scale(s) => Some(Matrix {
+            a: s,
+            b: 0.0,
+            c: 0.0,
+            d: 0.0,
+            e: s,
+            f: 0.0,
+        }),
+        Placement::Turn(m) => Some(m),
+    }
+}
+
+// Where a point goes.
 fn moved(p: Placement, x: i64, y: i64) -> Point
     requires { placeable p (x ∷ y ∷ []) ≡ true }
     ensures { (result.x ≡ across_of p x y) × (result.y ≡ down_of p x y) }
 {
-    match p {
-        Placement::None => Point { x, y },
-        Placement::Shift(u, v) => turned_point(
-            Matrix {
-                a: 1.0,
-                b: 0.0,
-                c: u,
-                d: 0.0,
-                e: 1.0,
-                f: v,
-            },
-            x,
-            y,
-        ),
-        Placement::Scale(s) => turned_point(
-            Matrix {
-                a: s,
-                b: 0.0,
-                c: 0.0,
-                d: 0.0,
-                e: s,
-                f: 0.0,
-            },
-            x,
-            y,
-        ),
-        Placement::Turn(m) => turned_point(m, x, y),
+    match turn_of(p) {
+        None => Point { x, y },
+        Some(m) => turned_point(m, x, y),
     }
 }
-
-// Point k of an outline, as placed. Where nothing is moved, that is the point itself, and no call is made: the function is small enough to be inlined.
-pub fn point_at(p: Placement, points: &[i64], k: usize) -> Point
-    requires { (2 * k + 1 < length points.now) × (placeable p points.now ≡ true) }
-    ensures { (result.x ≡ slice_index_or (placed p points.now) (2 * k) (pos 0)) × (result.y ≡ slice_index_or (placed p points.now) (2 * k + 1) (pos 0)) }
-{
-    let across = points[2 * k];
-    let down = points[2 * k + 1];
-    match p {
-        Placement::None => Point { x: across, y: down },
-        _ => moved(p, across, down),
-    }
-}
-
-// ---- question 6, which is decided on the placed points
 
 // Are both coordinates of a point from low to high?
 fn is_point_within(q: Point, low: i64, high: i64) -> bool
     ensures { result ≡ (between low high q.x && between low high q.y) }
 {
     integers::is_within(q.x, low, high) && integers::is_within(q.y, low, high)
-}
-
-// Is every coordinate of the placed points from low to high? One point after the other is fetched and placed.
-fn all_moved_within(p: Placement, points: &[i64], low: i64, high: i64) -> bool
-    requires { (length points.now % 2 ≡ 0) × (placeable p points.now ≡ true) }
-    ensures { result ≡ every (between low high) (placed p points.now) }
-{
-    let n = points.len() / 2;
-    let mut k = 0;
-    while k < n {
-        if !is_point_within(point_at(p, points, k), low, high) {
-            return false;
-        }
-        k += 1;
-    }
-    true
-}
-
-// Do all coordinates, as placed, lie from low to high? Without a placement these are the points themselves, and none needs to be fetched through it.
-pub fn all_placed_within(p: Placement, points: &[i64], low: i64, high: i64) -> bool
-    requires { (length points.now % 2 ≡ 0) × (placeable p points.now ≡ true) }
-    ensures { result ≡ every (between low high) (placed p points.now) }
-{
-    match p {
-        Placement::None => integers::all_within(points, low, high),
-        _ => all_moved_within(p, points, low, high),
-    }
 }

@@ -24,7 +24,7 @@ use Rattle.edge.proofs.Laws.Cells.{half_below, quarter_on}
 use Rattle.edge.proofs.Laws.InQuarter.{in_quarter}
 use Rattle.haar.specs.Table.{index}
 use Rattle.haar.specs.Plane.{dimensions, h_detail, at}
-use Rattle.rasterize.specs.declared.Stage.{Stage}
+use Rattle.rasterize.specs.declared.stages.Stage.{Stage}
 use Rattle.rasterize.specs.Stages.{stage_at, quarter_stage, StageRoom, StageOf}
 use Rattle.rasterize.specs.declared.Node.{Node}
 use Rattle.rasterize.specs.Added.{added}

@@ -28,11 +28,10 @@ use Rattle.integers.proofs.Theorems.RangeSum.{Σ-zero, Σ-suc, Σ_cong, Σ_const
 use Rattle.edge.specs.declared.Edge.{Edge}
 use Rattle.edge.specs.declared.Cell.{Cell as Square}
 use Rattle.edge.specs.declared.Details.{Details}
-use Rattle.edge.specs.declared.Walk.{Walk}
 use Rattle.edge.specs.declared.Span.{Span}
 use Rattle.edge.specs.Inside.{Inside}
 use Rattle.edge.specs.Cuts.{span}
-use Rattle.edge.specs.WalkOf.{IsWalk}
+use Rattle.edge.specs.WalkOf.{Course, IsWalk}
 use Rattle.edge.specs.Rounded.{details}
 use Rattle.edge.proofs.Laws.WalkInside.{span_of_inside}
 use Rattle.rasterize.specs.declared.Node.{Node}
@@ -131,7 +130,7 @@ module _ {e : Edge} {c : Node} where
             ∙ Σ_const quarters (pos 0)
 
 -- ---- a quarter that the edge does not come into
-pub not-inside_of_span : {w : Walk} {s : Span} (cell : Square) → IsWalk w → s ≡ span w.x w.y cell w.steps
+pub not-inside_of_span : {w : Course} {s : Span} (cell : Square) → IsWalk w → s ≡ span w.x w.y cell w.steps
     → s.last ≤ℤ s.first → Inside w.edge cell → ⊥
 not-inside_of_span {w} {s} cell k e h i =
     lin⊥ (s.first ∷ s.last ∷ []) (le h & lt (subst⁻¹ (λ (z : Span). z.first <ℤ z.last) e (span_of_inside k cell i))) (search linear depth 40) tt

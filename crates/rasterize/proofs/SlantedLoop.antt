@@ -18,7 +18,7 @@ use Rattle.integers.specs.RangeSum.{Σ<}
 use Rattle.integers.proofs.Theorems.RangeSum.{Σ-zero, Σ-suc}
 use Rattle.edge.specs.declared.Cell.{Cell as Square}
 use Rattle.edge.specs.declared.Details.{Details}
-use Rattle.edge.specs.declared.Walk.{Walk}
+use Rattle.edge.specs.WalkOf.{Course}
 use Rattle.slanted.specs.declared.Slope.{Slope}
 use Rattle.slanted.specs.declared.Piece.{Piece}
 use Rattle.slanted.specs.Pieces.{rounded_details}
@@ -56,10 +56,10 @@ way_order l = record { below = way_below l; whole = λ f. four (λ q. f (quarter
 -- ---- the table on the way
 -- `left` is the number of levels below the cell, `entry` the table when the cell has added its own details
 pub record SlantedLoop (l : Slope) (p : Spot) (k : Piece) (left : ℕ) (entry table : List ℤ) (q : ℕ) : Type 0 where
-  pub sums : {w : Walk} {s : Square} → Slants w s l k → OnSheet w.edge (suc left) s → QuarterLoop (quarter_on_way l) w.edge (node_on p s) left entry table q
+  pub sums : {w : Course} {s : Square} → Slants w s l k → OnSheet w.edge (suc left) s → QuarterLoop (quarter_on_way l) w.edge (node_on p s) left entry table q
 
 pub record SlantedOwn (l : Slope) (p : Spot) (k : Piece) (left : ℕ) (before entry : List ℤ) : Type 0 where
-  pub own : {w : Walk} {s : Square} → Slants w s l k → OnSheet w.edge (suc left) s → OwnAdded w.edge (node_on p s) before entry
+  pub own : {w : Course} {s : Square} → Slants w s l k → OnSheet w.edge (suc left) s → OwnAdded w.edge (node_on p s) before entry
 
 module _ {l : Slope} {p : Spot} {k : Piece} where
   pub slanted_own : {left : ℕ} {before entry : List ℤ} {w : Details} {first : ℕ} → k.first <ℤ k.last → w ≡ rounded_details l k → first ≡ first_detail (node_on p (record { left = pos 0; top = pos 0; width = pos 0 }))

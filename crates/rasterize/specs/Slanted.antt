@@ -12,8 +12,7 @@
 --   SlantedAdds before after l p k left          what the walk's edge adds there has been added, for every such walk: `SlantedReady` says that there is one
 use Rattle.std.specs.Prelude.{◌≡◌, List, ℕ, suc, ◌+◌, ◌*◌, ◌/◌, ◌%◌, ℤ, ◌<ℤ◌}
 use Rattle.edge.specs.declared.Cell.{Cell as Square}
-use Rattle.edge.specs.declared.Walk.{Walk}
-use Rattle.edge.specs.WalkOf.{IsWalk}
+use Rattle.edge.specs.WalkOf.{Course, IsWalk}
 use Rattle.slanted.specs.declared.Slope.{Slope}
 use Rattle.slanted.specs.declared.Piece.{Piece}
 use Rattle.slanted.specs.Pieces.{Moving, slope_of, piece_of}
@@ -46,7 +45,7 @@ spot level x y = record { level = level; x = x; y = y }
 abbrev pub node_on : Spot → Square → Node
 node_on p s = record { level = p.level; x = p.x; y = p.y; square = s }
 
-pub record Slants (w : Walk) (s : Square) (l : Slope) (k : Piece) : Type 0 where
+pub record Slants (w : Course) (s : Square) (l : Slope) (k : Piece) : Type 0 where
   pub is_walk : IsWalk w
   pub x_moves : Moving w.x
   pub y_moves : Moving w.y
@@ -61,12 +60,12 @@ abbrev pub quarter_spot : Spot → ℕ → Spot
 quarter_spot p q = record { level = suc p.level; x = 2 * p.x + q % 2; y = 2 * p.y + q / 2 }
 
 pub record SlantedReady (t : List ℤ) (l : Slope) (p : Spot) (k : Piece) (left : ℕ) : Type 0 where
-  pub walk : Walk
+  pub walk : Course
   pub square : Square
   pub slants : Slants walk square l k
   pub inside : k.first <ℤ k.last
   pub ready : Ready t walk.edge left (node_on p square)
 
 pub record SlantedAdds (before after : List ℤ) (l : Slope) (p : Spot) (k : Piece) (left : ℕ) : Type 0 where
-  pub adds : {w : Walk} {s : Square} → Slants w s l k → OnSheet w.edge left s
+  pub adds : {w : Course} {s : Square} → Slants w s l k → OnSheet w.edge left s
       → after ≡ added before (contribution w.edge left (node_on p s))

@@ -15,7 +15,7 @@ use Rattle.edge.specs.Room.{coordinate_limit, extent_limit}
 use Rattle.edge.specs.Nested.{OnCell}
 use Rattle.edge.specs.Code.{before_middle, half_with, before_half}
 use Rattle.rasterize.specs.declared.Node.{Node}
-use Rattle.rasterize.specs.declared.Stage.{Stage}
+use Rattle.rasterize.specs.declared.stages.Stage.{Stage}
 use Rattle.rasterize.specs.Nodes.{node_at}
 
 abbrev pub stage_at : Edge → Node → Stage

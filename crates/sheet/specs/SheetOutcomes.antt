@@ -13,7 +13,7 @@ use Rattle.placement.specs.Placed.{placed}
 use Rattle.accuracy.specs.Outline.{edge_count}
 use Rattle.accuracy.specs.OutlineTable.{tile_root}
 use Rattle.accuracy.specs.Sheet.{from_tile}
-use Rattle.tile.specs.declared.Built.{Built}
+use Rattle.tile.specs.Answers.{Built}
 use Rattle.tile.specs.Questions.{depth_of, first_no}
 use Rattle.tile.specs.Outcomes.{if_done, edges_of, table_with}
 use Rattle.sheet.specs.declared.SheetTile.{SheetTile}

@@ -21,7 +21,7 @@ use Rattle.accuracy.specs.Accurate.{twice_miss_limit, twice_tile_miss_limit}
 use Rattle.accuracy.specs.Sheet.{corner}
 use Rattle.rasterize.specs.declared.View.{View}
 use Rattle.rasterize.specs.declared.View.TheVariants.{Alone as AloneView, From}
-use Rattle.tile.specs.declared.Built.{Built}
+use Rattle.tile.specs.Answers.{Built}
 use Rattle.tile.specs.Questions.{Question, Yes, depth_of, question1, table_questions, outline_questions}
 use Rattle.tile.specs.Outcomes.{edges_table, build_result, build_table}
 use Rattle.sheet.specs.declared.Site.{Site}

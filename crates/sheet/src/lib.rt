@@ -16,6 +16,7 @@ ghost use Rattle.std.specs.Prelude.{◌≡◌, ◌*◌, ◌<◌, ◌≤◌, pos}
 ghost use Rattle.integers.specs.Units.{steps_per_pixel, greatest_sheet_side};
 ghost use Rattle.integers.specs.Tests.{one_of};
 ghost use Rattle.tile.specs.Questions.{first_no};
+ghost use Rattle.tile.specs.Answers.{answer_number, built_of};
 ghost use Rattle.rasterize.specs.declared.View.TheVariants.{From};
 ghost use Rattle.sheet.specs.declared.Site.TheVariants.{OnSheet};
 ghost use Rattle.sheet.specs.SheetQuestions.{sheet_sides, tile_sides, question14, question15, place_questions};
@@ -24,8 +25,9 @@ ghost use Rattle.sheet.specs.SheetOutcomes.{sheet_result, sheet_table};
 ghost use Rattle.sheet.specs.FaithfulOnSheet.{FaithfulOnSheet};
 
 use placement::Placement;
-use rasterize::{Corner, View};
-use tile::{Built, DONE, NONE_IN};
+use placement::points::PlacedPoints;
+use rasterize::{Corner, Pass, View};
+use tile::{NONE_IN, Refusal, STEPS_PER_PIXEL};
 
 // A tile's place: the sheet's side and the tile's, in pixels, and the tile's column and row, in whole tiles.
 #[derive(Clone, Copy)]
@@ -49,15 +51,6 @@ const GREATEST_SHEET_SIDE: u32 = 128;
 // And their tiles 1 to 32.
 const GREATEST_TILE_SIDE: u32 = 32;
 
-// 01's step is 1/256 pixel.
-const STEPS_PER_PIXEL: usize = 256;
-
-// The numbers of refusals. Question 14: are the sides those of a sheet and of a tile of it?
-const NO_SHEET: u32 = 14;
-
-// Question 15: is the tile's place on the sheet?
-const NO_PLACE: u32 = 15;
-
 // ---- the questions
 
 // A sheet's side is a tile's, or twice the greatest of these.
@@ -78,13 +71,7 @@ fn is_tile_side(side: u32) -> bool
 fn is_sheet(sheet: u32, side: u32) -> bool
     ensures { result ≡ (question14 sheet side).answer }
 {
-    if !is_sheet_side(sheet) {
-        return false;
-    }
-    if !is_tile_side(side) {
-        return false;
-    }
-    side <= sheet
+    is_sheet_side(sheet) && is_tile_side(side) && side <= sheet
 }
 
 // Question 15. The place may be any number: the sheet's side is divided, and nothing is multiplied.
@@ -96,22 +83,22 @@ fn is_place(place: SheetTile) -> bool
     place.column < tiles && place.row < tiles
 }
 
-// The questions about a tile of a sheet: the first "no", or 0. Once 14 is answered yes, question 1 would be too.
-fn place_refusal(place: SheetTile, table: &[i64]) -> u32
-    ensures { result ≡ first_no (place_questions place table.now) }
+// The questions about a tile of a sheet. Once 14 is answered yes, question 1 would be too.
+fn place_refusal(place: SheetTile, table: &[i64]) -> Result<(), Refusal>
+    ensures { answer_number result ≡ first_no (place_questions place table.now) }
 {
     if !is_sheet(place.sheet, place.side) {
-        return NO_SHEET;
+        return Err(Refusal::Sheet);
     }
     if !is_place(place) {
-        return NO_PLACE;
+        return Err(Refusal::Place);
     }
     tile::tile_refusal(place.side, table)
 }
 
-// The questions about a tile, alone or on a sheet: the first "no", or 0.
-pub fn site_refusal(site: Site, table: &[i64]) -> u32
-    ensures value { result ≡ first_no (site_questions site table.now) }
+// The questions about a tile, alone or on a sheet.
+pub fn site_refusal(site: Site, table: &[i64]) -> Result<(), Refusal>
+    ensures value { answer_number result ≡ first_no (site_questions site table.now) }
     ensures table_value { table.now ≡ table.now }
 {
     match site {
@@ -147,7 +134,7 @@ fn steps_of(t: u32, side: u32) -> i64
     requires { t * side ≤ greatest_sheet_side }
     ensures { result ≡ pos (t * (steps_per_pixel * side)) }
 {
-    (t as usize * (STEPS_PER_PIXEL * side as usize)) as i64
+    t as i64 * (STEPS_PER_PIXEL * side as i64)
 }
 
 // A tile's corner on its sheet.
@@ -175,44 +162,35 @@ pub fn view_of(site: Site) -> View
 // ---- the call
 
 // Builds the table of one tile of a sheet from the outline on the sheet: `points` has x and y of each point in turn, in 1/256 pixel of the sheet, `counts` how
-// many points each contour has, and the outline is the points as placed. The answer is 0 and the edge count; whatever the table held before, it holds the
-// tile's afterwards. Or it is the number of the first question that is answered no, and 0, and the table is as it was.
+// many points each contour has, and the outline is the points as placed. The answer is the edge count; whatever the table held before, it holds the tile's
+// afterwards. Or it is the refusal of the first question that is answered no, and the table is as it was.
+//
+// The steps are those of `tile::build_placed`: a function for both would have to require that the outline lies in the tile's view, and those of `tile` ask
+// nothing of their caller.
 pub fn build_on_sheet(
     place: SheetTile,
     points: &[i64],
     counts: &[u32],
     placement: Placement,
     table: &mut [i64],
-) -> Built
-    ensures value { result ≡ sheet_result place points.now counts.now placement table.old }
+) -> Result<u32, Refusal>
+    ensures value { built_of result ≡ sheet_result place points.now counts.now placement table.old }
     ensures table_after { table.new ≡ sheet_table place points.now counts.now placement table.old }
     ensures faithful_on_sheet { FaithfulOnSheet place points.now counts.now placement table.old table.new }
     ensures points_value { (points.now ≡ points.now) × (counts.now ≡ counts.now) }
 {
-    let refusal = place_refusal(place, table);
-    if refusal != DONE {
-        return Built {
-            number: refusal,
-            edges: 0,
-        };
-    }
-    let number = tile::outline_refusal(place.sheet, points, counts, placement, NONE_IN);
-    if number != DONE {
-        return Built { number, edges: 0 };
-    }
+    place_refusal(place, table)?;
+    tile::outline_refusal(place.sheet, points, counts, placement, NONE_IN)?;
     tile::clear(table);
-    let view = view_of(Site::OnSheet(place));
-    contours::add_outline(
-        table,
-        points,
-        counts,
+    let placed = PlacedPoints {
+        given: points,
         placement,
-        view,
-        1,
-        tile::depth_of(place.side),
-    );
-    Built {
-        number: DONE,
-        edges: tile::edges_of(counts) as u32,
-    }
+    };
+    let pass = Pass {
+        view: view_of(Site::OnSheet(place)),
+        sign: 1,
+        depth: tile::depth_of(place.side),
+    };
+    contours::add_outline(table, &placed, counts, pass);
+    Ok(tile::edges_of(counts) as u32)
 }

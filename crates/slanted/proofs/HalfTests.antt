@@ -1,12 +1,6 @@
--- The definitions by the half before a crossing, 0, and the one after it, as the code's test k = 0 tells them apart; and the smaller and the larger of two
--- numbers by its test a <= b.
-use Rattle.std.proofs.Common.{◌≡◌, refl, sym, ap, ℕ, zero, suc, true, false, ℤ, ◌+ℤ◌, ◌-ℤ◌, w64, SFits}
-use Rattle.std.specs.Int.Signed.{le_z}
-use Rattle.integers.proofs.Theorems.Machine.{known, taken≤, left≤}
-use Rattle.integers.proofs.Theorems.Order.{≤ℤ_of_<ℤ}
-use Rattle.integers.specs.Bits.{back}
+-- The definitions by the half before a crossing, 0, and the one after it, as the code's test k = 0 tells them apart.
+use Rattle.std.proofs.Common.{◌≡◌, refl, ap, ℕ, zero, suc, ℤ, ◌+ℤ◌, ◌-ℤ◌}
 use Rattle.integers.specs.MinMax.{min, max}
-use Rattle.integers.proofs.Theorems.MinMax.{min_eqˡ, min_eqʳ, max_eqˡ, max_eqʳ}
 use Rattle.slanted.specs.Parts.{since, until, shifted}
 
 module _ {k : ℕ} (t m : ℤ) where
@@ -37,17 +31,3 @@ module _ (t m : ℤ) where
   unfolding shifted
   shifted_after {k = zero} n = absurd (n refl)
   shifted_after {k = suc k} n = refl
-
--- ---- the smaller and the larger
-module _ {a b : ℤ} (f : SFits w64 a) (g : SFits w64 b) where
-  pub min_taken : le_z (back a) (back b) ≡ true → back a ≡ min a b
-  min_taken e = known f (sym (min_eqˡ (taken≤ a b f g e)))
-
-  pub min_left : le_z (back a) (back b) ≡ false → back b ≡ min a b
-  min_left e = known g (sym (min_eqʳ (≤ℤ_of_<ℤ (left≤ a b f g e))))
-
-  pub max_taken : le_z (back a) (back b) ≡ true → back b ≡ max a b
-  max_taken e = known g (sym (max_eqʳ (taken≤ a b f g e)))
-
-  pub max_left : le_z (back a) (back b) ≡ false → back a ≡ max a b
-  max_left e = known f (sym (max_eqˡ (≤ℤ_of_<ℤ (left≤ a b f g e))))

@@ -14,9 +14,9 @@ use Rattle.integers.specs.Rounding.{round_half_away}
 use Rattle.edge.specs.declared.Axis.{Axis}
 use Rattle.edge.specs.declared.Cell.{Cell}
 use Rattle.edge.specs.declared.Details.{Details}
-use Rattle.edge.specs.declared.Walk.{Walk}
 use Rattle.edge.specs.Cuts.{span, to_middle}
 use Rattle.edge.specs.Room.{crossing_limit}
+use Rattle.edge.specs.WalkOf.{Course}
 use Rattle.slanted.specs.declared.Slope.{Slope}
 use Rattle.slanted.specs.declared.Piece.{Piece}
 use Rattle.slanted.specs.Under.{under, turned, far_limit, Arch}
@@ -25,11 +25,11 @@ pub data Moving (a : Axis) : Type 0 where
   onward : a.sign ≡ pos 1 → Moving a
   back : a.sign ≡ negsuc 0 → Moving a
 
-abbrev pub slope_of : Walk → Slope
+abbrev pub slope_of : Course → Slope
 slope_of w = record { divisor = w.divisor; x = w.x.sign; y = w.y.sign }
 
 -- the steps inside, those at which the middles are crossed, and half of the width in the steps of each direction
-abbrev pub piece_of : Walk → Cell → ℤ → Piece
+abbrev pub piece_of : Course → Cell → ℤ → Piece
 piece_of w c half = record {
   first = (span w.x w.y c w.steps).first;
   last = (span w.x w.y c w.steps).last;

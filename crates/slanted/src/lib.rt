@@ -20,15 +20,16 @@ ghost use Rattle.integers.specs.Rounding.{round_half_away};
 ghost use Rattle.integers.specs.Units.{width_times_extent_limit};
 ghost use Rattle.integers.specs.Within.{Within};
 ghost use Rattle.integers.specs.MinMax.{min, max};
-ghost use Rattle.edge.specs.Cuts.{span as span_of, to_side};
-ghost use Rattle.edge.specs.Room.{coordinate_limit, extent_limit, crossing_limit, Even, Room};
-ghost use Rattle.edge.specs.WalkOf.{IsWalk, Decides};
+ghost use Rattle.edge.specs.Cuts.{span as span_of};
+ghost use Rattle.edge.specs.Room.{crossing_limit, Even, Room};
+ghost use Rattle.edge.specs.WalkOf.{Decides};
+ghost use Rattle.edge.specs.CourseOf.{course};
 ghost use Rattle.edge.specs.Nested.{OnCell};
 ghost use Rattle.slanted.specs.Under.{signed_square, under, turned as turned_sum, under_limit, sum_limit, far_limit, Arch, Turns};
 ghost use Rattle.slanted.specs.Pieces.{Moving, piece_of, rounded_details, signed_by, Sound, Ranged};
 ghost use Rattle.slanted.specs.Parts.{since as since_of, until as until_of, shifted as shifted_by, IsPart};
 
-use edge::{Axis, Cell, Details, Span, Walk, half_of};
+use edge::{Cell, Details, Span, Walk, half_of};
 
 // What all cells share of a walk: what its sums are divided by, and its signs in x and in y.
 #[derive(Clone, Copy)]
@@ -38,7 +39,8 @@ pub struct Slope {
     pub y: i64,
 }
 
-// A walk in a cell, in steps: the first inside and the last, those at which the middles are crossed, and half of the width.
+// A walk in a cell, in steps: the first inside and the last, those at which the middles are crossed, and half of the width. What `Sound` says is no part of the
+// type: in a quarter that the edge misses there is no step, and `part_of` answers that too.
 #[derive(Clone, Copy)]
 pub struct Piece {
     pub first: i64,
@@ -49,11 +51,21 @@ pub struct Piece {
     pub half_y: i64,
 }
 
+// A tent: half of a cell's width in the steps of a direction, the step at which that direction crosses the middle, and those from which and to which it is
+// asked for, where it is not negative.
+#[derive(Clone, Copy)]
+struct Tent {
+    half: i64,
+    middle: i64,
+    first: i64,
+    last: i64,
+    ghost arch: { Arch half middle first last },
+}
+
 // ---- from a walk
 
 // Does the walk move in both directions?
 pub fn is_slanted(w: Walk) -> bool
-    requires { IsWalk w }
     ensures { Decides result (Moving w.x × Moving w.y) }
 {
     w.x.sign != 0 && w.y.sign != 0
@@ -61,7 +73,7 @@ pub fn is_slanted(w: Walk) -> bool
 
 // The steps inside a cell that the edge lies on: all of them, if it is slanted.
 pub fn span_on(w: Walk, c: Cell) -> Span
-    requires { IsWalk w × Room w.edge c × OnCell c w.edge }
+    requires { Room w.edge c × OnCell c w.edge }
     ensures { result ≡ span_of w.x w.y c w.steps }
 {
     if is_slanted(w) {
@@ -70,32 +82,22 @@ pub fn span_on(w: Walk, c: Cell) -> Span
             last: w.steps,
         }
     } else {
-        edge::span_in(w, c)
+        w.span_in(c)
     }
 }
 
-// The step at which a direction crosses the middle between its sides, p being half of the width in its steps.
-fn middle_of(a: Axis, side: i64, p: i64) -> i64
-    requires { Within (pos extent_limit) a.scale × Within (pos coordinate_limit) a.start × Within (pos 1) a.sign × Within (pos coordinate_limit) side × Within (pos width_times_extent_limit) p }
-    ensures { result ≡ a.sign *ℤ (to_side a side +ℤ p) }
-{
-    a.sign * (a.scale * (side - a.start) + p)
-}
-
-// The piece of a walk in a cell, given the steps inside, as `edge::span_in` answers them.
+// The piece of a walk in a cell, given the steps inside, as `span_in` of the walk answers them.
 pub fn piece_of(w: Walk, c: Cell, half: i64, s: Span) -> Piece
-    requires { IsWalk w × Room w.edge c × (c.width ≡ half +ℤ half) × (pos 0 ≤ℤ half) × (s ≡ span_of w.x w.y c w.steps) }
-    ensures { result ≡ piece_of w c half }
+    requires { Room w.edge c × (c.width ≡ half +ℤ half) × (pos 0 ≤ℤ half) × (s ≡ span_of w.x w.y c w.steps) }
+    ensures { result ≡ piece_of (course w) c half }
 {
-    let p = w.x.scale * half;
-    let q = w.y.scale * half;
     Piece {
         first: s.first,
         last: s.last,
-        middle_x: middle_of(w.x, c.left, p),
-        middle_y: middle_of(w.y, c.top, q),
-        half_x: p,
-        half_y: q,
+        middle_x: w.across(c).middle(half),
+        middle_y: w.down(c).middle(half),
+        half_x: w.x.scale * half,
+        half_y: w.y.scale * half,
     }
 }
 
@@ -106,15 +108,7 @@ fn signed_square(z: i64) -> i64
     requires { Within (pos width_times_extent_limit) z }
     ensures { result ≡ signed_square z }
 {
-    z * integers::magnitude(z) as i64
-}
-
-// Twice the sum of p - |t - m| over the steps from u to v, each by the mean of its two ends.
-fn under_tent(p: i64, m: i64, u: i64, v: i64) -> i64
-    requires { Arch p m u v }
-    ensures { result ≡ under p m u v }
-{
-    2 * p * (v - u) - (signed_square(v - m) - signed_square(u - m))
+    z * z.abs()
 }
 
 // m / n to the nearest whole number, a half going up. m is not negative.
@@ -125,7 +119,7 @@ fn nearest(m: i64, n: i64) -> i64
     (m + (n >> 1)) / n
 }
 
-// The sign of m, 1 for 0.
+// The sign of m, 1 for 0. The library's `signum` has a third case, which would only be one more to prove.
 fn turn(m: i64) -> i64
     ensures { Turns m result }
 {
@@ -141,31 +135,49 @@ fn away(m: i64, n: i64) -> i64
     s * nearest(s * m, n)
 }
 
-// What lies under the tent up to step y, less what comes after, where h is all of it.
-fn turned(p: i64, m: i64, u: i64, v: i64, y: i64, h: i64) -> i64
-    requires { Arch p m u v × (h ≡ under p m u v) }
-    ensures { result ≡ turned_sum p m u v y }
-{
-    if v <= y {
-        h
-    } else if y <= u {
-        -h
-    } else {
-        2 * under_tent(p, m, u, y) - h
+impl Tent {
+    // Twice the sum of half - |t - middle| over the steps t from the first to the last, each by the mean of its two ends.
+    fn under(self) -> i64
+        ensures { result ≡ under self.half self.middle self.first self.last }
+    {
+        let m = self.middle;
+        2 * self.half * (self.last - self.first)
+            - (signed_square(self.last - m) - signed_square(self.first - m))
     }
-}
 
-// `turned` over n, rounded. r is h over n, rounded: if y does not lie between the two ends, the answer is r or -r, and nothing is divided again.
-fn turned_over(p: i64, m: i64, from: i64, to: i64, y: i64, h: i64, r: i64, n: i64) -> i64
-    requires { Arch p m from to × (h ≡ under p m from to) × (r ≡ round_half_away h (nat_abs n)) × (pos 0 <ℤ n) × (n ≤ℤ pos crossing_limit) }
-    ensures { result ≡ round_half_away (turned_sum p m from to y) (nat_abs n) }
-{
-    if to <= y {
-        r
-    } else if y <= from {
-        -r
-    } else {
-        away(turned(p, m, from, to, y, h), n)
+    // What lies under it up to step y, less what comes after, where h is all of it.
+    fn turned(self, y: i64, h: i64) -> i64
+        requires { h ≡ under self.half self.middle self.first self.last }
+        ensures { result ≡ turned_sum self.half self.middle self.first self.last y }
+    {
+        if self.last <= y {
+            h
+        } else if y <= self.first {
+            -h
+        } else {
+            let before = Tent {
+                half: self.half,
+                middle: self.middle,
+                first: self.first,
+                last: y,
+            };
+            2 * before.under() - h
+        }
+    }
+
+    // `turned` over n, rounded. r is h over n, rounded: if y does not lie between the two ends, the answer is r or -r, and nothing is divided again.
+    fn turned_over(self, y: i64, h: i64, r: i64, n: i64) -> i64
+        requires { (h ≡ under self.half self.middle self.first self.last) × (r ≡ round_half_away h (nat_abs n)) × (pos 0 <ℤ n) × (n ≤ℤ pos crossing_limit) }
+        ensures { result ≡ round_half_away (turned_sum self.half self.middle self.first self.last y) (nat_abs n) }
+    {
+        let to = self.last;
+        if to <= y {
+            r
+        } else if y <= self.first {
+            -r
+        } else {
+            away(self.turned(y, h), n)
+        }
     }
 }
 
@@ -177,7 +189,7 @@ fn signed(l: Slope, h: i64, v: i64, d: i64) -> Details
     Details {
         h: l.y * h,
         v: -(l.x * v),
-        d: d,
+        d,
     }
 }
 
@@ -186,12 +198,21 @@ fn whole(l: Slope, k: Piece) -> Details
     requires { Sound l k × (l.divisor ≡ pos 1) }
     ensures { result ≡ rounded_details l k }
 {
-    let y = k.middle_y;
-    let from = k.first;
-    let to = k.last;
-    let h = under_tent(k.half_x, k.middle_x, from, to);
-    let v = under_tent(k.half_y, y, from, to);
-    signed(l, h, v, turned(k.half_x, k.middle_x, from, to, y, h))
+    let x = Tent {
+        half: k.half_x,
+        middle: k.middle_x,
+        first: k.first,
+        last: k.last,
+    };
+    let y = Tent {
+        half: k.half_y,
+        middle: k.middle_y,
+        first: k.first,
+        last: k.last,
+    };
+    let h = x.under();
+    let v = y.under();
+    signed(l, h, v, x.turned(k.middle_y, h))
 }
 
 // Over n each is rounded on its own.
@@ -199,19 +220,23 @@ fn divided(l: Slope, k: Piece) -> Details
     requires { Sound l k }
     ensures { result ≡ rounded_details l k }
 {
+    let x = Tent {
+        half: k.half_x,
+        middle: k.middle_x,
+        first: k.first,
+        last: k.last,
+    };
+    let y = Tent {
+        half: k.half_y,
+        middle: k.middle_y,
+        first: k.first,
+        last: k.last,
+    };
     let n = l.divisor;
-    let y = k.middle_y;
-    let from = k.first;
-    let to = k.last;
-    let h = under_tent(k.half_x, k.middle_x, from, to);
+    let h = x.under();
     let r = nearest(h, n);
-    let v = nearest(under_tent(k.half_y, y, from, to), n);
-    signed(
-        l,
-        r,
-        v,
-        turned_over(k.half_x, k.middle_x, from, to, y, h, r, n),
-    )
+    let v = nearest(y.under(), n);
+    signed(l, r, v, x.turned_over(k.middle_y, h, r, n))
 }
 
 // The rounded details of a walk in a cell, by its piece there. At 45 degrees the divisor is 1. One test, and two functions: a test at each quotient
@@ -227,35 +252,21 @@ pub fn details_of(l: Slope, k: Piece) -> Details
     }
 }
 
-// ---- in a quarter, half by half: 0 is the half before a crossing, and 1 the one after it.
-
-// The earlier of two steps, and the later.
-#[tactic(auto, using(crate::proofs::HalfTests::min_taken, crate::proofs::HalfTests::min_left))]
-fn low(a: i64, b: i64) -> i64
-    ensures { result ≡ min a b }
-{
-    if a <= b { a } else { b }
-}
-
-#[tactic(auto, using(crate::proofs::HalfTests::max_taken, crate::proofs::HalfTests::max_left))]
-fn high(a: i64, b: i64) -> i64
-    ensures { result ≡ max a b }
-{
-    if a <= b { b } else { a }
-}
+// ---- in a quarter, half by half: 0 is the half before a crossing, and 1 the one after it. A number and no enum, since it is reckoned with: a part's number is
+// that of its half of x and twice that of y (`IsPart` of `specs/`).
 
 // The first step in the half, where t is the first in both and m the crossing.
 fn since(k: usize, t: i64, m: i64) -> i64
     ensures { result ≡ since_of k t m }
 {
-    if k == 0 { t } else { high(t, m) }
+    if k == 0 { t } else { t.max(m) }
 }
 
 // The last step in it.
 fn until(k: usize, t: i64, m: i64) -> i64
     ensures { result ≡ until_of k t m }
 {
-    if k == 0 { low(t, m) } else { t }
+    if k == 0 { t.min(m) } else { t }
 }
 
 // The crossing of its middle, q steps off.

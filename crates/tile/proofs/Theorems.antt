@@ -1,5 +1,7 @@
 -- What is proved of the definitions of specs/, file by file, in its order.
 
+-- ---- the numbers of refusals
+pub mod Numbers
 -- ---- demand 1: each number comes under its question, and under no other condition; a refusal leaves everything as it was
 pub mod Refusals
 -- ---- demand 2: each entry of the table that building left; each figure and grey of a table

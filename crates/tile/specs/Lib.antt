@@ -10,6 +10,8 @@
 -- ---- the calls
 -- the questions, and the order in which each call asks them
 pub mod Questions
+-- what an answer says: a value, or a refusal and its number
+pub mod Answers
 -- what each call answers, and what its buffers hold afterwards
 pub mod Outcomes
 -- ---- demand 1: each number comes under its question, and under no other condition; a refusal leaves everything as it was

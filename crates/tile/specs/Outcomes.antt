@@ -25,8 +25,7 @@ use Rattle.placement.specs.declared.Placement.{Placement}
 use Rattle.placement.specs.Placed.{placed}
 use Rattle.accuracy.specs.Outline.{contours_of, edge_count, outline_edges}
 use Rattle.accuracy.specs.OutlineTable.{outline_table, table_from}
-use Rattle.tile.specs.declared.Built.{Built}
-use Rattle.tile.specs.declared.CellFigure.{CellFigure}
+use Rattle.tile.specs.Answers.{Built, CellFigure}
 use Rattle.tile.specs.Questions.{depth_of, first_no, building_questions, placed_questions, drawing_questions, cell_questions, pyramid_questions}
 
 abbrev pub if_done : {A : Type 0} → ℕ → A → A → A

@@ -1,10 +1,13 @@
-// The seventeen calls for programs in C or Rust: `include/mattuliyan.h` declares them, and says what its caller owes.
+// The seventeen calls for programs in C or Rust: `include/mattuliyan.h` declares them, and says what its caller owes. Each is a function of its own, of numbers
+// and slices only: C's header has neither sites nor results.
 //
 // A slice is passed as a pointer and a length, a place on a sheet as its four numbers. A call that answers two numbers answers the first, that of the refusal or
 // 0, and writes the second through a pointer.
 #![tactic(auto)]
 
 ghost use Rattle.std.specs.Prelude.{◌≡◌, length};
+ghost use Rattle.std.specs.Result.{result_unwrap_or};
+ghost use Rattle.tile.specs.Answers.{answer_number};
 ghost use Rattle.tile.specs.Outcomes.{build_result, build_table, placed_result, placed_table, draw_refusal, figures_picture, greys_picture, cell_result};
 ghost use Rattle.tile.specs.Outcomes.{pyramid_refusal, pyramid_pictures};
 ghost use Rattle.tile.specs.AllLevels.{LevelByLevel};
@@ -22,18 +25,19 @@ ghost use Rattle.tile_c.specs.PlacementNumbers.{placement_of};
 
 use placement::{Matrix, Placement};
 use sheet::{SheetTile, Site};
-
-// How many numbers each placement has.
-const NUMBERS_OF_NONE: usize = 0;
-
-const NUMBERS_OF_SCALE: usize = 1;
-
-const NUMBERS_OF_SHIFT: usize = 2;
-
-const NUMBERS_OF_TURN: usize = 6;
+use tile::{Refusal, number_of_answer};
 
 // Past every factor's limit, so that question 12 refuses it.
 const NO_FACTOR: f64 = 4.0;
+
+// An answer of two numbers: the first is returned, and the second is written, or `none` beside a refusal.
+fn answered<T: Copy>(answer: Result<T, Refusal>, none: T, place: &mut T) -> u32
+    ensures number { result ≡ answer_number answer }
+    ensures place_after { place.new ≡ result_unwrap_or answer none }
+{
+    *place = answer.unwrap_or(none);
+    number_of_answer(answer)
+}
 
 // `tile::build`: the number, and the edge count into `edges`, 0 where it is refused.
 #[unsafe(no_mangle)]
@@ -51,35 +55,20 @@ pub extern "C" fn mattuliyan_build(
     ensures points_value { (points.now ≡ points.now) × (counts.now ≡ counts.now) }
 {
     let built = tile::build(side, points, counts, table);
-    *edges = built.edges;
-    built.number
+    answered(built, 0, edges)
 }
 
 // The placement of as many numbers as are there, or one that question 12 refuses.
 fn placement_of(numbers: &[f64]) -> Placement
     ensures { result ≡ placement_of numbers.now }
 {
-    let n = numbers.len();
-    if n == NUMBERS_OF_NONE {
-        return Placement::None;
+    match numbers {
+        [] => Placement::None,
+        &[s] => Placement::Scale(s),
+        &[u, v] => Placement::Shift(u, v),
+        &[a, b, c, d, e, f] => Placement::Turn(Matrix { a, b, c, d, e, f }),
+        _ => Placement::Scale(NO_FACTOR),
     }
-    if n == NUMBERS_OF_SCALE {
-        return Placement::Scale(numbers[0]);
-    }
-    if n == NUMBERS_OF_SHIFT {
-        return Placement::Shift(numbers[0], numbers[1]);
-    }
-    if n == NUMBERS_OF_TURN {
-        return Placement::Turn(Matrix {
-            a: numbers[0],
-            b: numbers[1],
-            c: numbers[2],
-            d: numbers[3],
-            e: numbers[4],
-            f: numbers[5],
-        });
-    }
-    Placement::Scale(NO_FACTOR)
 }
 
 // `tile::build_placed`: the number, and the edge count into `edges`, 0 where it is refused.
@@ -99,8 +88,7 @@ pub extern "C" fn mattuliyan_build_placed(
     ensures points_value { (points.now ≡ points.now) × (counts.now ≡ counts.now) × (placement.now ≡ placement.now) }
 {
     let placed = tile::build_placed(side, points, counts, placement_of(placement), table);
-    *edges = placed.edges;
-    placed.number
+    answered(placed, 0, edges)
 }
 
 // `corrections::put`: `edges` is the record, read and written.
@@ -119,7 +107,7 @@ pub extern "C" fn mattuliyan_put(
     ensures holds_one_more { HoldsOneMore (putting side points.now count (placement_of placement.now)) (tile_of table.old edges.old) (tile_of table.new edges.new) }
     ensures points_value { (points.now ≡ points.now) × (placement.now ≡ placement.now) }
 {
-    corrections::put(side, points, count, placement_of(placement), edges, table)
+    number_of_answer(corrections::put(side, points, count, placement_of(placement), edges, table))
 }
 
 // `corrections::take`: `edges` is the record, read and written.
@@ -138,7 +126,7 @@ pub extern "C" fn mattuliyan_take(
     ensures holds_one_less { HoldsOneLess (taking side points.now count (placement_of placement.now)) (tile_of table.old edges.old) (tile_of table.new edges.new) }
     ensures points_value { (points.now ≡ points.now) × (placement.now ≡ placement.now) }
 {
-    corrections::take(side, points, count, placement_of(placement), edges, table)
+    number_of_answer(corrections::take(side, points, count, placement_of(placement), edges, table))
 }
 
 // A place on a sheet.
@@ -174,8 +162,7 @@ pub extern "C" fn mattuliyan_build_on_sheet(
 {
     let place = place_of(sheet, side, column, row);
     let drawn = sheet::build_on_sheet(place, points, counts, placement_of(placement), table);
-    *edges = drawn.edges;
-    drawn.number
+    answered(drawn, 0, edges)
 }
 
 // `corrections::put_on_sheet`: `edges` is the record, read and written.
@@ -198,7 +185,8 @@ pub extern "C" fn mattuliyan_put_on_sheet(
     ensures points_value { (points.now ≡ points.now) × (placement.now ≡ placement.now) }
 {
     let place = place_of(sheet, side, column, row);
-    corrections::put_on_sheet(place, points, count, placement_of(placement), edges, table)
+    let moved = placement_of(placement);
+    number_of_answer(corrections::put_on_sheet(place, points, count, moved, edges, table))
 }
 
 // `corrections::take_on_sheet`: `edges` is the record, read and written.
@@ -221,7 +209,8 @@ pub extern "C" fn mattuliyan_take_on_sheet(
     ensures points_value { (points.now ≡ points.now) × (placement.now ≡ placement.now) }
 {
     let place = place_of(sheet, side, column, row);
-    corrections::take_on_sheet(place, points, count, placement_of(placement), edges, table)
+    let moved = placement_of(placement);
+    number_of_answer(corrections::take_on_sheet(place, points, count, moved, edges, table))
 }
 
 // `curves::build_curves` on a tile alone: the number, and the edge count into `edges`, 0 where it is refused.
@@ -244,8 +233,7 @@ pub extern "C" fn mattuliyan_build_curves(
     let site = Site::Alone(side);
     let moved = placement_of(placement);
     let curved = curves::build_curves(site, points, counts, marks, moved, table);
-    *edges = curved.edges;
-    curved.number
+    answered(curved, 0, edges)
 }
 
 // `curves::put_curves` on a tile alone: `edges` is the record, read and written.
@@ -268,7 +256,7 @@ pub extern "C" fn mattuliyan_put_curves(
 {
     let site = Site::Alone(side);
     let moved = placement_of(placement);
-    curves::put_curves(site, points, count, marks, moved, edges, table)
+    number_of_answer(curves::put_curves(site, points, count, marks, moved, edges, table))
 }
 
 // `curves::take_curves` on a tile alone: `edges` is the record, read and written.
@@ -291,7 +279,7 @@ pub extern "C" fn mattuliyan_take_curves(
 {
     let site = Site::Alone(side);
     let moved = placement_of(placement);
-    curves::take_curves(site, points, count, marks, moved, edges, table)
+    number_of_answer(curves::take_curves(site, points, count, marks, moved, edges, table))
 }
 
 // `curves::build_curves` on a sheet: the number, and the edge count into `edges`, 0 where it is refused.
@@ -318,8 +306,7 @@ pub extern "C" fn mattuliyan_build_curves_on_sheet(
     let there = Site::OnSheet(place);
     let moved = placement_of(placement);
     let crossing = curves::build_curves(there, points, counts, marks, moved, table);
-    *edges = crossing.edges;
-    crossing.number
+    answered(crossing, 0, edges)
 }
 
 // `curves::put_curves` on a sheet: `edges` is the record, read and written.
@@ -346,7 +333,7 @@ pub extern "C" fn mattuliyan_put_curves_on_sheet(
     let place = place_of(sheet, side, column, row);
     let there = Site::OnSheet(place);
     let moved = placement_of(placement);
-    curves::put_curves(there, points, count, marks, moved, edges, table)
+    number_of_answer(curves::put_curves(there, points, count, marks, moved, edges, table))
 }
 
 // `curves::take_curves` on a sheet: `edges` is the record, read and written.
@@ -373,7 +360,7 @@ pub extern "C" fn mattuliyan_take_curves_on_sheet(
     let place = place_of(sheet, side, column, row);
     let there = Site::OnSheet(place);
     let moved = placement_of(placement);
-    curves::take_curves(there, points, count, marks, moved, edges, table)
+    number_of_answer(curves::take_curves(there, points, count, marks, moved, edges, table))
 }
 
 // `tile::figures`.
@@ -388,7 +375,7 @@ pub extern "C" fn mattuliyan_figures(
     ensures picture_after { picture.new ≡ figures_picture side level table.now picture.old }
     ensures table_value { table.now ≡ table.now }
 {
-    tile::figures(side, level, table, picture)
+    number_of_answer(tile::figures(side, level, table, picture))
 }
 
 // `tile::greys`.
@@ -398,7 +385,7 @@ pub extern "C" fn mattuliyan_greys(side: u32, level: u32, table: &[i64], picture
     ensures picture_after { picture.new ≡ greys_picture side level table.now picture.old }
     ensures table_value { table.now ≡ table.now }
 {
-    tile::greys(side, level, table, picture)
+    number_of_answer(tile::greys(side, level, table, picture))
 }
 
 // `tile::pyramid`.
@@ -409,7 +396,7 @@ pub extern "C" fn mattuliyan_pyramid(side: u32, table: &[i64], pictures: &mut [u
     ensures level_by_level { LevelByLevel side table.now pictures.old pictures.new }
     ensures table_value { table.now ≡ table.now }
 {
-    tile::pyramid(side, table, pictures)
+    number_of_answer(tile::pyramid(side, table, pictures))
 }
 
 // `tile::cell`: the number, and the figure into `figure`, 0 where it is refused.
@@ -427,7 +414,5 @@ pub extern "C" fn mattuliyan_cell(
     ensures table_value { table.now ≡ table.now }
 {
     let answer = tile::cell(side, level, cx, cy, table);
-    let drawn = answer.figure; // copied first, as the proof's walk asks
-    *figure = drawn;
-    answer.number
+    answered(answer, 0, figure)
 }

@@ -1,19 +1,20 @@
 // The calls: what each is given and what it answers.
-ghost use Rattle.std.specs.Prelude.{◌<◌, ◌≤◌};
+ghost use Rattle.std.specs.Prelude.{◌<◌};
 
-use std::io::{Result, Write};
-use tile::{build, cell, figures, greys};
-use vector_print::{bytes, named, number, numbers, words};
+use std::io::Write;
+use std::{fmt, io};
+use tile::{Refusal, build, cell, figures, greys};
+use vector_print::numbers;
 
-// A tile of side 64 has levels 0 to 6, and its last one 4,096 cells.
+// A tile of side 64 has levels 0 to 6.
 const LEVELS: u32 = 7;
 
-const MOST_CELLS: u32 = 4096;
-
-pub fn least(a: usize, b: usize) -> usize
-    ensures { (result ≤ a) × (result ≤ b) }
-{
-    if a < b { a } else { b }
+// What is printed of an answer: the number of the refusal, 0 where there is none, and the value, 0 where there is none.
+fn told<T: Default + Drop>(answer: Result<T, Refusal>) -> (u32, T) {
+    match answer {
+        Ok(value) => (0, value),
+        Err(refusal) => (refusal.number(), T::default()),
+    }
 }
 
 pub fn show_build<W: Write>(
@@ -22,162 +23,106 @@ pub fn show_build<W: Write>(
     points: &[i64],
     counts: &[u32],
     table: &mut [i64],
-) -> Result<()> {
-    named(out, b"build side", side as u64)?;
-    named(out, b" contours", counts.len() as u64)?;
-    named(out, b" points", points.len() as u64)?;
-    named(out, b" entries", table.len() as u64)?;
-    let r = build(side, points, counts, table);
-    named(out, b":", r.number as u64)?;
-    named(out, b" edges", r.edges as u64)?;
-    words(out, b" table")?;
+) -> io::Result<()> {
+    let (number, edges) = told(build(side, points, counts, table));
+    write!(
+        out,
+        "build side {side} contours {} points {} entries {}: {number} edges {edges} table",
+        counts.len(),
+        points.len(),
+        table.len()
+    )?;
     numbers(out, table)
 }
 
-// What the other calls are given.
-fn given<W: Write>(out: &mut W, name: &[u8], side: u32, level: u32, entries: usize) -> Result<()> {
-    words(out, name)?;
-    named(out, b" side", side as u64)?;
-    named(out, b" level", level as u64)?;
-    named(out, b" entries", entries as u64)
+// What is drawn: a level of a tile, or a cell of it, from the tile's table.
+#[derive(Clone, Copy)]
+pub struct Drawn<'a> {
+    pub side: u32,
+    pub level: u32,
+    pub table: &'a [i64],
+}
+
+impl<'a> fmt::Display for Drawn<'a> {
+    fn fmt<W: fmt::Write>(&self, f: &mut fmt::Formatter<W>) -> fmt::Result {
+        let side = self.side;
+        let level = self.level;
+        write!(f, "side {side} level {level} entries {}", self.table.len())
+    }
+}
+
+// A picture, after what was asked for and the number.
+fn show_picture<W: Write, T: Copy + Into<i64>>(
+    out: &mut W,
+    name: &str,
+    drawn: Drawn<'_>,
+    answer: Result<(), Refusal>,
+    picture: &[T],
+) -> io::Result<()> {
+    let (number, ()) = told(answer);
+    write!(
+        out,
+        "{name} {drawn} places {}: {number} picture",
+        picture.len()
+    )?;
+    numbers(out, picture)
 }
 
 pub fn show_figures<W: Write>(
     out: &mut W,
-    side: u32,
-    level: u32,
-    table: &[i64],
+    drawn: Drawn<'_>,
     picture: &mut [i64],
-) -> Result<()> {
-    given(out, b"figures", side, level, table.len())?;
-    named(out, b" places", picture.len() as u64)?;
-    named(out, b":", figures(side, level, table, picture) as u64)?;
-    words(out, b" picture")?;
-    numbers(out, picture)
+) -> io::Result<()> {
+    let answer = figures(drawn.side, drawn.level, drawn.table, picture);
+    show_picture(out, "figures", drawn, answer, picture)
 }
 
-pub fn show_greys<W: Write>(
-    out: &mut W,
-    side: u32,
-    level: u32,
-    table: &[i64],
-    picture: &mut [u8],
-) -> Result<()> {
-    given(out, b"greys", side, level, table.len())?;
-    named(out, b" places", picture.len() as u64)?;
-    named(out, b":", greys(side, level, table, picture) as u64)?;
-    words(out, b" picture")?;
-    bytes(out, picture)
+pub fn show_greys<W: Write>(out: &mut W, drawn: Drawn<'_>, picture: &mut [u8]) -> io::Result<()> {
+    let answer = greys(drawn.side, drawn.level, drawn.table, picture);
+    show_picture(out, "greys", drawn, answer, picture)
 }
 
-pub fn show_cell<W: Write>(
-    out: &mut W,
-    side: u32,
-    level: u32,
-    cx: u32,
-    cy: u32,
-    table: &[i64],
-) -> Result<()> {
-    given(out, b"cell", side, level, table.len())?;
-    named(out, b" at", cx as u64)?;
-    named(out, b"", cy as u64)?;
-    let r = cell(side, level, cx, cy, table);
-    named(out, b":", r.number as u64)?;
-    words(out, b" figure")?;
-    number(out, r.figure)?;
-    words(out, b"\n")
+pub fn show_cell<W: Write>(out: &mut W, drawn: Drawn<'_>, cx: u32, cy: u32) -> io::Result<()> {
+    let (number, figure) = told(cell(drawn.side, drawn.level, cx, cy, drawn.table));
+    writeln!(out, "cell {drawn} at {cx} {cy}: {number} figure {figure}")
 }
 
-// ---- all levels
-
-// How many cells a row of a level has.
-fn across(level: u32) -> u32
-    ensures { (0 < result) × (result ≤ 64) }
+// Is each cell that is asked for alone as in the picture, whose rows have n cells?
+fn same_cells(drawn: Drawn<'_>, picture: &[i64], n: u32) -> bool
+    requires { 0 < n }
 {
-    match level {
-        0 => 1,
-        1 => 2,
-        2 => 4,
-        3 => 8,
-        4 => 16,
-        5 => 32,
-        _ => 64,
-    }
+    let mut rows = (0..n).zip(picture.chunks(n as usize));
+    rows.all(|(cy, row)| {
+        let mut cells = (0..n).zip(row);
+        cells.all(|(cx, figure)| cell(drawn.side, drawn.level, cx, cy, drawn.table) == Ok(*figure))
+    })
 }
 
-// Is the cell asked for alone as in the picture, where it has a place there?
-fn same_cell(
-    side: u32,
-    level: u32,
-    cx: u32,
-    cy: u32,
-    table: &[i64],
-    picture: &[i64],
-    at: usize,
-) -> bool {
-    if picture.len() <= at {
-        return true;
-    }
-    let r = cell(side, level, cx, cy, table);
-    r.number == 0 && r.figure == picture[at]
-}
-
-fn same_cells(side: u32, level: u32, table: &[i64], picture: &[i64]) -> bool {
-    let n = across(level);
-    for i in 0..MOST_CELLS {
-        if !same_cell(side, level, i % n, i / n, table, picture, i as usize) {
-            return false;
-        }
-    }
-    true
-}
-
-fn draw_level<W: Write>(
-    out: &mut W,
-    side: u32,
-    level: u32,
-    table: &[i64],
-    picture: &mut [i64],
-    shades: &mut [u8],
-) -> Result<()> {
-    show_figures(out, side, level, table, picture)?;
-    show_greys(out, side, level, table, shades)?;
-    given(out, b"cells", side, level, table.len())?;
-    if same_cells(side, level, table, picture) {
-        words(out, b": alone same\n")
-    } else {
-        words(out, b": alone differs\n")
-    }
-}
-
-// A level, where the tile has it.
-fn show_level<W: Write>(
-    out: &mut W,
-    side: u32,
-    level: u32,
-    table: &[i64],
-    picture: &mut [i64],
-    shades: &mut [u8],
-) -> Result<()> {
-    let n = across(level);
-    if side < n {
-        return Ok(());
-    }
-    let cells = (n * n) as usize;
-    let p = least(cells, picture.len());
-    let s = least(cells, shades.len());
-    draw_level(out, side, level, table, &mut picture[..p], &mut shades[..s])
-}
-
+// All levels that a tile of the side has.
 pub fn show_all<W: Write>(
     out: &mut W,
     side: u32,
     table: &[i64],
     picture: &mut [i64],
     shades: &mut [u8],
-) -> Result<()> {
+) -> io::Result<()> {
     for level in 0..LEVELS {
-        show_level(out, side, level, table, picture, shades)?;
+        let n = 1u32 << level;
+        if side < n {
+            break;
+        }
+        let drawn = Drawn { side, level, table };
+        let cells = 1usize << (2 * level);
+        let figures = cells.min(picture.len());
+        let greys = cells.min(shades.len());
+        show_figures(out, drawn, &mut picture[..figures])?;
+        show_greys(out, drawn, &mut shades[..greys])?;
+        let same = if same_cells(drawn, &picture[..figures], n) {
+            "same"
+        } else {
+            "differs"
+        };
+        writeln!(out, "cells {drawn}: alone {same}")?;
     }
     Ok(())
 }

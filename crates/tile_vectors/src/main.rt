@@ -18,27 +18,18 @@ use std::io;
 use vector_print::{INPUT_LIMIT, read_full};
 
 mod calls;
-mod read;
+mod given;
 mod text;
 
-// Each list has room for more than a tile of side 64 takes.
-const ROOM: usize = 4100;
+use given::Given;
 
 fn main(rt: HostRuntime) -> io::Result<()> {
     let mut text = [0u8; INPUT_LIMIT];
     let n = read_full(&mut rt.stdin(), &mut text);
-    let mut points = [0i64; ROOM];
-    let mut counts = [0u32; ROOM];
-    let mut table = [0i64; ROOM];
-    let mut figures = [0i64; ROOM];
-    let mut greys = [0u8; ROOM];
-    read::read_all(
-        &mut rt.stdout(),
-        &text[..n],
-        &mut points,
-        &mut counts,
-        &mut table,
-        &mut figures,
-        &mut greys,
-    )
+    let mut out = rt.stdout();
+    let mut given = Given::new(rt.alloc());
+    for line in text[..n].split(|b| *b == b'\n') {
+        given.read_line(&mut out, line)?;
+    }
+    Ok(())
 }

@@ -2,9 +2,9 @@
 // printing function has a contract: what a program prints is compared with its `stdout`.
 #![tactic(auto)]
 
-ghost use Rattle.std.specs.Prelude.{◌≤◌, length};
+ghost use Rattle.std.specs.Prelude.{◌≤◌, length, take};
+ghost use Rattle.std.specs.Io.KnownBytes.{Consumes};
 
-use integers::magnitude;
 use std::io::{Read, Result, Write};
 
 // A line of more numbers has a checksum in their place.
@@ -18,17 +18,18 @@ const MODULUS: u64 = 1000000007;
 // A program reads no more of its input than this.
 pub const INPUT_LIMIT: usize = 65536;
 
-// Reads until the list is full or the input ends; a failed read counts as the end. Answers how many bytes there are.
+// Reads until the list is full or the input ends; a failed read counts as the end, so no clause can say that all was read. Answers how many bytes there
+// are, which are those that the input gave.
 pub fn read_full<R: Read>(input: &mut R, list: &mut [u8]) -> usize
-    ensures { result ≤ length list.new }
+    ensures count { result ≤ length list.new }
+    ensures bytes { Consumes (R.remaining input.old) (R.remaining input.new) (take result list.new) }
 {
     let mut done = 0;
     while done < list.len() {
-        let n = input.read(&mut list[done..]).unwrap_or(0);
-        if n == 0 {
-            break;
+        match input.read(&mut list[done..]) {
+            Ok(0) | Err(_) => break,
+            Ok(n) => done += n,
         }
-        done += n;
     }
     done
 }
@@ -56,14 +57,9 @@ pub fn number<W: Write>(out: &mut W, q: i64) -> Result<()> {
 
 // ---- a line of n numbers, or their checksum
 
-// The checksum with one more number.
+// The checksum with one more number, the number modulo MODULUS being its digit.
 fn mixed(sum: u64, q: i64) -> u64 {
-    let m = magnitude(q) % MODULUS;
-    if q < 0 {
-        (sum % MODULUS * BASE + (MODULUS - m)) % MODULUS
-    } else {
-        (sum % MODULUS * BASE + m) % MODULUS
-    }
+    (sum % MODULUS * BASE + q.rem_euclid(MODULUS as i64) as u64) % MODULUS
 }
 
 // One number of a line of n. Answers the checksum so far.
@@ -83,18 +79,11 @@ pub fn end<W: Write>(out: &mut W, n: usize, sum: u64) -> Result<()> {
     words(out, b"\n")
 }
 
-pub fn numbers<W: Write>(out: &mut W, list: &[i64]) -> Result<()> {
+// The numbers, of any type that converts to i64.
+pub fn numbers<W: Write, T: Copy + Into<i64>>(out: &mut W, list: &[T]) -> Result<()> {
     let mut sum = 0;
-    for i in 0..list.len() {
-        sum = tell(out, list.len(), sum, list[i])?;
-    }
-    end(out, list.len(), sum)
-}
-
-pub fn bytes<W: Write>(out: &mut W, list: &[u8]) -> Result<()> {
-    let mut sum = 0;
-    for i in 0..list.len() {
-        sum = tell(out, list.len(), sum, list[i] as i64)?;
+    for q in list {
+        sum = tell(out, list.len(), sum, (*q).into())?;
     }
     end(out, list.len(), sum)
 }

@@ -25,6 +25,6 @@ returns c =
     let few : c.chords_at.result ≤ most_chords = omega (arith, n, pow_mono {i = a.k} {j = most_splits} c.requires.3) in
     let n-small : c.chords_at.result < 2 ^ 63 = omega (arith, few) in
     let i-small : a.i < 2 ^ 63 = omega (arith, few, n, c.requires.4) in
-    result_is c.step_at.type_inv
-    (c.step_at.ensures
+    result_is c.at.type_inv
+    (c.at.ensures
     ∙ as_said a.p a.q a.r a.k a.i (to_z-of_z f.p) (to_z-of_z f.q) (to_z-of_z f.r) (to_z_pos w64 n-small ∙ ap pos n) (to_z_pos w64 i-small))

@@ -7,10 +7,10 @@
 --   down_end                     all are taken: it is the sum where nothing is left
 use Rattle.std.specs.Prelude.{◌≡◌, refl, false, List, ℕ, zero, suc, ◌+◌, ◌-◌, ◌<◌, ◌≤◌, eqb, length, get_or, drop}
 use Rattle.std.proofs.Common.{sym, ◌∙◌, arith, add-one, eq-eqb, ne_eqb, drop_of_length-le, drop-cons}
-use Rattle.std.proofs.Math.Path.{ap}
+use Rattle.std.proofs.Math.Path.{ap, ap₂}
 use Rattle.integers.specs.ListSum.{tally}
 
-module _ {A : Type 0} (f : A → ℕ) (d : A) (l : List A) (size : ℕ) where
+module _ {A : Type 0} (f : A → ℕ) (l : List A) (size : ℕ) where
   pub record Down (i left : ℕ) : Type 0 where
     pub balance : size + tally f (drop i l) ≡ left + tally f l
 
@@ -18,15 +18,19 @@ module _ {A : Type 0} (f : A → ℕ) (d : A) (l : List A) (size : ℕ) where
   down_start = record { balance = refl }
 
   module _ (i left : ℕ) (b : Down i left) where
-    next : i < length l → tally f (drop i l) ≡ f (get_or l i d) + tally f (drop (i + 1) l)
-    unfolding tally
-    next h = ap (tally f) (drop-cons l i d h) ∙ ap (λ n. f (get_or l i d) + tally f (drop n l)) (sym (add-one i))
+    -- the next one is a, and has n
+    module _ {a : A} {n : ℕ} (is : a ≡ get_or l i a) (h : i < length l) (has : n ≡ f a) where
+      next : tally f (drop i l) ≡ n + tally f (drop (i + 1) l)
+      unfolding tally
+      next =
+          ap (tally f) (drop-cons l i a h) ∙ ap (λ x. f x + tally f (drop (suc i) l)) (sym is)
+          ∙ ap₂ (λ m k. m + tally f (drop k l)) (sym has) (sym (add-one i))
 
-    pub down_next : i < length l → f (get_or l i d) ≤ left → Down (i + 1) (left - f (get_or l i d))
-    down_next h e = record { balance = omega (arith, next h, e, b.balance) }
+      pub down_next : n ≤ left → Down (i + 1) (left - n)
+      down_next e = record { balance = omega (arith, next, e, b.balance) }
 
-    pub down-over : i < length l → left < f (get_or l i d) → eqb size (tally f l) ≡ false
-    down-over h e = ne_eqb size (tally f l) (λ s. omega (arith, s, next h, e, b.balance))
+      pub down-over : left < n → eqb size (tally f l) ≡ false
+      down-over e = ne_eqb size (tally f l) (λ s. omega (arith, s, next, e, b.balance))
 
     pub down_end : length l ≤ i → eqb left 0 ≡ eqb size (tally f l)
     unfolding tally

@@ -1,17 +1,18 @@
 -- The numerators of h, v and d, from how far the walk is past the sides at the four cuts. Between the sides all of that stays within its limit.
-use Rattle.std.proofs.Common.{◌≡◌, ◌*◌, ℤ, pos, ◌-ℤ◌, ◌*ℤ◌, ◌∙◌, ap, ap₂, rules, SFits, w64}
+use Rattle.std.proofs.Common.{◌≡◌, ◌*◌, ℤ, pos, ◌-ℤ◌, ◌*ℤ◌, ◌∙◌, ap, ap₂}
 use Rattle.std.proofs.Math.Path.{subst⁻¹}
 use Rattle.integers.specs.Units.{width_times_extent_limit}
 use Rattle.integers.proofs.Theorems.Machine.{known}
+use Rattle.integers.specs.Within.{Within}
 use Rattle.integers.specs.Bits.{back}
 use Rattle.integers.proofs.Theorems.Bits.{result_is}
 use Rattle.integers.specs.Held.{Held}
-use Rattle.integers.proofs.Theorems.Held.{held_back, held_within, held_fits, held-neg}
+use Rattle.integers.proofs.Theorems.Held.{held_fits, held-neg}
 use Rattle.edge.specs.declared.Axis.{Axis}
 use Rattle.edge.specs.declared.Samples.{Samples}
 use Rattle.edge.specs.Code.{AxisRoom, SamplesWithin, SamplesClosed, beyond_at, near_at, piece_sum}
 use Rattle.edge.proofs.Lemmas.Records.{details-eq}
-use Rattle.edge.proofs.AxisNumbers.{width_held, width_is, past_is, beyond_within, near_within}
+use Rattle.edge.proofs.AxisNumbers.{width_within, beyond_within, near_within}
 use Rattle.edge.proofs.PieceBounds.{piece_limit, piece_sum_within}
 use Rattle.edge.proofs.numerators.Goals as goal
 use Rattle.edge.proofs.numerators.Goals.{After-near_at-ny, After-pieces-2}
@@ -27,37 +28,33 @@ record Found (a : Axis) (side w : ℤ) (k u v : Samples) : Type 0 where
   near : v ≡ near_at (a.scale *ℤ w) (beyond_at a side k)
   near_bound : Bounded v
 
-module _ {a : Axis} {side w : ℤ} (r : AxisRoom a side w) {k : Samples} (c : SamplesClosed a side w k) {u : Samples} (e : u ≡ beyond_at a (back side) k) where
+module _ {a : Axis} {side w : ℤ} (r : AxisRoom a side w) {k : Samples} (c : SamplesClosed a side w k) {u : Samples} (e : u ≡ beyond_at a side k) where
   past_within : Bounded u
-  past_within = subst⁻¹ Bounded (past_is r k e) (beyond_within r c)
+  past_within = subst⁻¹ Bounded e (beyond_within r c)
 
-  found : {v : Samples} → SFits w64 w → v ≡ near_at (back (back a.scale *ℤ back w)) u → Found a side w k u v
+  -- m: the width in its scale, read back
+  found : {v : Samples} {m : ℤ} → m ≡ a.scale *ℤ w → v ≡ near_at m u → Found a side w k u v
   found {v} f h =
-      let i : v ≡ near_at (a.scale *ℤ w) (beyond_at a side k) = h ∙ ap₂ near_at (width_is r f) (past_is r k e) in
-      record { past = past_is r k e; past_bound = past_within; near = i; near_bound = subst⁻¹ Bounded i (near_within r c) }
+      let i : v ≡ near_at (a.scale *ℤ w) (beyond_at a side k) = h ∙ ap₂ near_at f e in
+      record { past = e; past_bound = past_within; near = i; near_bound = subst⁻¹ Bounded i (near_within r c) }
 
 pub near_at-nx-requires : goal.near_at-nx-requires
 near_at-nx-requires c =
-    let p = c.requires in
-    let f : SFits w64 c.args.c.width = search rules in
-    (held_within (held_back tt (width_held p.0 f)), past_within p.0 p.3 c.beyond_at-x.ensures)
+    let r = c.args.a.room in
+    (subst⁻¹ (Within (pos width_times_extent_limit)) (result_is c.reach.type_inv c.reach.ensures) (width_within r), past_within r c.requires.1 c.past-x.ensures)
 
 pub near_at-ny-requires : goal.near_at-ny-requires
 near_at-ny-requires c =
-    let p = c.requires in
-    let f : SFits w64 c.args.c.width = search rules in
-    (held_within (held_back tt (width_held p.1 f)), past_within p.1 p.4 c.beyond_at-y.ensures)
+    let r = c.args.b.room in
+    (subst⁻¹ (Within (pos width_times_extent_limit)) (result_is c.reach-2.type_inv c.reach-2.ensures) (width_within r), past_within r c.requires.2 c.past-y.ensures)
 
 -- ---- both directions
 module _ (c : After-near_at-ny) where
-  width_fits : SFits w64 c.args.c.width
-  width_fits = search rules
+  x : Found c.args.a.axis c.args.a.side c.args.a.width c.args.k c.past-x.result c.near_at-nx.result
+  x = found c.args.a.room c.requires.1 c.past-x.ensures (result_is c.reach.type_inv c.reach.ensures) c.near_at-nx.ensures
 
-  x : Found c.args.a c.args.c.left c.args.c.width c.args.k c.beyond_at-x.result c.near_at-nx.result
-  x = found c.requires.0 c.requires.3 c.beyond_at-x.ensures width_fits c.near_at-nx.ensures
-
-  y : Found c.args.b c.args.c.top c.args.c.width c.args.k c.beyond_at-y.result c.near_at-ny.result
-  y = found c.requires.1 c.requires.4 c.beyond_at-y.ensures width_fits c.near_at-ny.ensures
+  y : Found c.args.b.axis c.args.b.side c.args.b.width c.args.k c.past-y.result c.near_at-ny.result
+  y = found c.args.b.room c.requires.2 c.past-y.ensures (result_is c.reach-2.type_inv c.reach-2.ensures) c.near_at-ny.ensures
 
 pub pieces-requires : goal.pieces-requires
 pieces-requires c = ((x c).near_bound, (y c).past_bound)
@@ -66,7 +63,7 @@ pub pieces-requires-2 : goal.pieces-requires-2
 pieces-requires-2 c = let n = (goal.at.pieces-requires-2 c).After-near_at-ny in ((y n).near_bound, (x n).past_bound)
 
 -- the sum of v, whose sign is turned
-v_held : (c : After-pieces-2) → Held (3 * piece_limit) (back c.pieces-2.result) (piece_sum c.near_at-ny.result c.beyond_at-x.result)
+v_held : (c : After-pieces-2) → Held (3 * piece_limit) (back c.pieces-2.result) (piece_sum c.near_at-ny.result c.past-x.result)
 v_held c =
     let n = (goal.at.overflow_sub-result c).After-near_at-ny in
     record { is = result_is c.pieces-2.type_inv c.pieces-2.ensures; within = piece_sum_within (y n).near_bound (x n).past_bound }

@@ -6,6 +6,7 @@ use Rattle.integers.proofs.Theorems.Held.{held_number, held-neg, held_back}
 use Rattle.edge.proofs.Lemmas.Records.{span-eq}
 use Rattle.edge.proofs.Signs.{strip_forward, strip_backward, strip-between, strip_outside}
 use Rattle.edge.proofs.strip.Goals as goal
+use Rattle.edge.proofs.strip.Goals.{else-lower-lt0-via-then-lower-lt0+else-upper-gt0, else-lower-lt0-via-else-lower-lt0}
 
 pub returns-then-s-gt0 : goal.returns-then-s-gt0
 returns-then-s-gt0 c =
@@ -22,28 +23,8 @@ returns-then-s-lt0 c =
     let k : a.s <ℤ pos 0 = search (tests, sfits_lit) in
     span-eq (held_back tt (held-neg (held_number tt p.1))).is (held_back tt (held-neg (held_number tt p.0))).is ∙ sym (strip_backward a.s a.lower a.upper a.n k)
 
-pub returns-then-lower-ge0 : goal.returns-then-lower-ge0
-returns-then-lower-ge0 c =
-    let a = c.args in
-    let i = c.ranges.s in
-    let j = c.ranges.lower in
-    let k : a.s ≤ℤ pos 0 = search (tests, sfits_lit) in
-    let l : pos 0 ≤ℤ a.s = search (tests, sfits_lit) in
-    let o : pos 0 ≤ℤ a.lower = search (tests, sfits_lit) in
-    span-eq (to_z-of_z c.ranges.n) refl ∙ sym (strip_outside a.n k l (inl o))
-
-pub returns-then-upper-le0 : goal.returns-then-upper-le0
-returns-then-upper-le0 c =
-    let a = c.args in
-    let i = c.ranges.s in
-    let j = c.ranges.upper in
-    let k : a.s ≤ℤ pos 0 = search (tests, sfits_lit) in
-    let l : pos 0 ≤ℤ a.s = search (tests, sfits_lit) in
-    let o : a.upper ≤ℤ pos 0 = search (tests, sfits_lit) in
-    span-eq (to_z-of_z c.ranges.n) refl ∙ sym (strip_outside a.n k l (inr o))
-
-pub returns-else-upper-le0 : goal.returns-else-upper-le0
-returns-else-upper-le0 c =
+pub returns-then-upper-gt0 : goal.returns-then-upper-gt0
+returns-then-upper-gt0 c =
     let a = c.args in
     let i = c.ranges.s in
     let j = c.ranges.lower in
@@ -53,3 +34,17 @@ returns-else-upper-le0 c =
     let o : a.lower <ℤ pos 0 = search (tests, sfits_lit) in
     let p : pos 0 <ℤ a.upper = search (tests, sfits_lit) in
     span-eq refl (to_z-of_z c.ranges.n) ∙ sym (strip-between a.n k l o p)
+
+pub returns-else-lower-lt0 : goal.returns-else-lower-lt0
+returns-else-lower-lt0 c =
+    let a = c.args in
+    let i = c.ranges.s in
+    let j = c.ranges.lower in
+    let g = c.ranges.upper in
+    let k : a.s ≤ℤ pos 0 = search (tests, sfits_lit) in
+    let l : pos 0 ≤ℤ a.s = search (tests, sfits_lit) in
+    span-eq (to_z-of_z c.ranges.n) refl
+    ∙ elim c.else-lower-lt0.branch [
+      | else-lower-lt0-via-then-lower-lt0+else-upper-gt0 w ↦ (let o : a.upper ≤ℤ pos 0 = search (tests, sfits_lit) in sym (strip_outside a.n k l (inr o)))
+      | else-lower-lt0-via-else-lower-lt0 w ↦ (let o : pos 0 ≤ℤ a.lower = search (tests, sfits_lit) in sym (strip_outside a.n k l (inl o)))
+    ]

@@ -1,5 +1,6 @@
 -- A walk in unit steps where the edge is octilinear, and else in the steps of the definitions.
 use Rattle.std.proofs.Common.{◌≡◌, refl, ℕ, ℤ, ◌⊎◌, ◌*◌, max, pos, nat_abs, ◌*ℤ◌, ◌≤ℤ◌, ◌<ℤ◌, [], ◌∷◌, sym, ◌∙◌, ap, ap₂, inl, inr}
+use Rattle.std.proofs.Math.Path.{subst⁻¹}
 use Rattle.std.proofs.Math.Nat.{max-eq_left, max-eq_right}
 use Rattle.integers.proofs.Theorems.Ring.{read, comb, ◌⊕◌, ◌⊗◌}
 use Rattle.integers.proofs.Theorems.Order.{≤ℤ_or_<ℤ, ≤ℤ_of_<ℤ, ≤_of_pos}
@@ -12,16 +13,16 @@ use Rattle.integers.specs.Held.{Held}
 use Rattle.integers.proofs.Theorems.Held.{held-mul, held_fits, held_back}
 use Rattle.edge.specs.declared.Edge.{Edge}
 use Rattle.edge.specs.declared.Axis.{Axis}
-use Rattle.edge.specs.declared.Walk.{Walk}
 use Rattle.edge.specs.Walk.{extent, sign, dx, dy, ax, ay, steps}
 use Rattle.edge.specs.Room.{extent_limit}
 use Rattle.edge.specs.Octilinear.{Octilinear, level, upright, diagonal, unit_steps}
-use Rattle.edge.specs.WalkOf.{fine, unit}
+use Rattle.edge.specs.WalkOf.{Course, IsWalk, fine, unit}
 use Rattle.edge.proofs.Lemmas.Ends.{sign-extent, sign_zero}
 use Rattle.edge.proofs.Lemmas.Records.{axis_eq}
+use Rattle.edge.proofs.Laws.Methods.{max_is}
 use Rattle.edge.proofs.Sizes.{difference, extent_within}
 use Rattle.edge.proofs.walk_along.Goals as goal
-use Rattle.edge.proofs.walk_along.Goals.{Start}
+use Rattle.edge.proofs.walk_along.Goals.{Start, then-is_octilinear, else-is_octilinear}
 
 standing : (d : ℤ) → sign d ≡ pos 0 → d ≡ pos 0
 standing d h = comb (d ∷ sign d ∷ pos (extent d) ∷ []) (sym (sign-extent d) ⊕ pos (extent d) ⊗ h) (search read depth 40) tt
@@ -68,7 +69,7 @@ module _ (s : Start) where
 
 -- ---- the walk
 walk_eq : {e : Edge} {a a' b b' : Axis} {m m' n n' : ℤ} → a ≡ a' → b ≡ b' → m ≡ m' → n ≡ n'
-    → ◌≡◌ {A = Walk} (record { edge = e; x = a; y = b; steps = m; divisor = n }) (record { edge = e; x = a'; y = b'; steps = m'; divisor = n' })
+    → ◌≡◌ {A = Course} (record { edge = e; x = a; y = b; steps = m; divisor = n }) (record { edge = e; x = a'; y = b'; steps = m'; divisor = n' })
 walk_eq {e} {a} {a'} {b} {b'} {m} {m'} {n} {n'} p q r s =
     ap₂ (λ x y. record { edge = e; x = x; y = y; steps = m; divisor = n }) p q ∙ ap₂ (λ x y. record { edge = e; x = a'; y = b'; steps = x; divisor = y }) r s
 
@@ -82,14 +83,20 @@ max_pos m n = go (≤ℤ_or_<ℤ (pos m) (pos n))
 pub overflow_mul-n : goal.overflow_mul-n
 overflow_mul-n c = held_fits tt (product (goal.at.overflow_mul-n c).Start)
 
-pub returns-then-is_octilinear : goal.returns-then-is_octilinear
-returns-then-is_octilinear c =
-    let s = (goal.at.returns-then-is_octilinear c).Start in
-    let n : back c.high.result ≡ pos (unit_steps c.args.e) = result_is c.high.type_inv (c.high.ensures ∙ ap₂ maxℤ (ax_is s) (ay_is s) ∙ max_pos (ax c.args.e) (ay c.args.e)) in
-    (refl, unit (octilinear s (c.is_octilinear.ensures.yes c.if-is_octilinear.true)) (walk_eq (axis_eq refl (x0_is s) (sx_is s)) (axis_eq refl (y0_is s) (sy_is s)) n refl))
+-- the numbers that either arm answers are the walk of its edge
+abbrev Answered : Edge × (Axis × (Axis × (ℤ × (ℤ × Unit {0})))) → Type 0
+Answered r = ∥ IsWalk (record { edge = r.0; x = r.1.0; y = r.1.1.0; steps = r.1.1.1.0; divisor = r.1.1.1.1.0 }) ∥₁
 
-pub returns-else-is_octilinear : goal.returns-else-is_octilinear
-returns-else-is_octilinear c =
-    let s = (goal.at.returns-else-is_octilinear c).Start in
-    let n = (held_back tt (product s)).is in
-    (refl, fine (λ o. c.is_octilinear.ensures.no c.if-is_octilinear.false (signs s o)) (walk_eq (axis_eq (ay_is s) (x0_is s) (sx_is s)) (axis_eq (ax_is s) (y0_is s) (sy_is s)) n n))
+pub invariant_of-result : goal.invariant_of-result
+invariant_of-result c =
+    let s = (goal.at.invariant_of-result c).Start in
+    record {
+      is_walk = elim c.if-is_octilinear.branch [
+        | then-is_octilinear w ↦ (let n : back w.max.result ≡ pos (unit_steps c.args.e) = result_is w.max.type_inv (w.max.ensures.value ∙ max_is _ _ ∙ ap₂ maxℤ (ax_is s) (ay_is s) ∙ max_pos (ax c.args.e) (ay c.args.e)) in
+            subst⁻¹ Answered w.result-is
+            ∣ unit (octilinear s (c.is_octilinear.ensures.yes w.if-is_octilinear.true)) (walk_eq (axis_eq refl (x0_is s) (sx_is s)) (axis_eq refl (y0_is s) (sy_is s)) n refl) ∣₁)
+        | else-is_octilinear w ↦ (let n = (held_back tt (product s)).is in
+            subst⁻¹ Answered w.result-is
+            ∣ fine (λ o. c.is_octilinear.ensures.no w.if-is_octilinear.false (signs s o)) (walk_eq (axis_eq (ay_is s) (x0_is s) (sx_is s)) (axis_eq (ax_is s) (y0_is s) (sy_is s)) n n) ∣₁)
+      ];
+    }

@@ -1,21 +1,18 @@
--- Where the numbers are ready, there is room for the walk's edge, which is the edge that was given, in the cell.
-use Rattle.std.proofs.Common.{◌≡◌, [], ◌∷◌, refl, sym, subst₂, ℤ, ◌+ℤ◌, to_z, of_z, w64, to_z-of_z}
-use mir.Val.{SFits}
-use Rattle.integers.proofs.Theorems.Linear.{le, ◌&◌}
-use Rattle.integers.proofs.Theorems.Machine.{machine, linfits}
+-- There is room for the walk's edge, which is the case's.
+use Rattle.std.proofs.Common.{◌≡◌, sym, subst}
+use Rattle.edge.specs.declared.Edge.{Edge}
+use Rattle.edge.specs.declared.Cell.{Cell}
 use Rattle.edge.specs.Room.{Room}
-use Rattle.edge_vectors.specs.Ready.{HalfWidth}
 use Rattle.edge_vectors.proofs.show.Goals as goal
 
--- the width, read back from its bits
-width_is : {half : ℤ} → HalfWidth half → to_z w64 (of_z w64 (half +ℤ half)) ≡ half +ℤ half
-width_is {half} h =
-    let f : SFits w64 (half +ℤ half) = linfits (half ∷ []) (le h.low & le h.high) (search machine depth 40) (tt, tt) in
-    to_z-of_z f
+room_of : {d e : Edge} {c : Cell} → d ≡ e → Room e c → Room d c
+room_of {c = c} e r = subst (λ d. Room d c) (sym e) r
 
-pub print_case-requires : goal.print_case-requires
-print_case-requires g c =
-    let ready = c.if-checked.ensures.shown refl in
-    let walk = c.walk_of.ensures in
-    let e = width_is ready.width in
-    (walk.1, subst₂ (λ e w. Room e record { left = to_z w64 (of_z w64 c.args.left); top = to_z w64 (of_z w64 c.args.top); width = w }) (sym walk.0) (sym e) ready.room)
+pub details_in-details-requires : goal.details_in-details-requires
+details_in-details-requires g c = room_of c.of-walk.ensures c.requires
+
+pub area_in-area-requires : goal.area_in-area-requires
+area_in-area-requires g c = room_of c.of-walk.ensures c.requires
+
+pub comes_inside-requires : goal.comes_inside-requires
+comes_inside-requires g c = room_of c.of-walk.ensures c.requires

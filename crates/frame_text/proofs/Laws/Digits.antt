@@ -3,19 +3,22 @@
 -- Main results
 --   digit_value_char, digit_char_value     a digit's number and a number's digit undo each other
 --   digit_value_le                         and no byte stands for more than 16
+--   decimal_digit, letter_digit            the number of a digit, by ranges of bytes
+--   no_digit_low, no_digit_between, no_digit_high  and no other byte has one
+--   counted_value                          a byte that is no digit counts for 16
 --   hex-length, hex-digits                 so many digits, and digits
 --   value_append                           digits after digits
 --   value_hex                              the digits of a number stand for it
 --   hex_value_lem                          the digits of what digits stand for are these
 --   value_lt                               what n digits stand for is below 16^n
-use Rattle.std.specs.Prelude.{◌≡◌, ℕ, zero, suc, ◌+◌, ◌*◌, ◌/◌, ◌%◌, ◌^◌, ◌<◌, ◌≤◌, Bool, true, false, cond, ◌&&◌, List, [], ◌∷◌, ◌++◌, length, ◌==◌, nat_eq, slice_index, refl}
-use Rattle.std.proofs.Common.{sym, ◌∙◌, ap, ap₂, subst, append_assoc, append-nil, mod-lt, div-lt_iff_lt-mul, add-zero, mod-eq_of_lt, arith, length-append, eqb-true, ltb-true, lt-ltb}
+use Rattle.std.specs.Prelude.{◌≡◌, ℕ, zero, suc, ◌+◌, ◌-◌, ◌*◌, ◌/◌, ◌%◌, ◌^◌, ◌<◌, ◌≤◌, Bool, true, false, cond, ◌&&◌, Some, None, List, [], ◌∷◌, ◌++◌, length, ◌==◌, nat_eq, nat_lt, slice_index, refl}
+use Rattle.std.proofs.Common.{sym, ◌∙◌, ap, ap₂, subst, append_assoc, append-nil, mod-lt, div-lt_iff_lt-mul, add-zero, mod-eq_of_lt, arith, length-append, eqb-true, ltb-true, ltb-false, lt-ltb, le-ltb, unwrap_or}
 use Rattle.std.proofs.Math.Path.{subst⁻¹}
 use Rattle.std.proofs.Math.Nat.{div-add-mod, pow-succ', mul-add-div, mul-add-mod_self_left, div-eq_of_lt}
 use Rattle.integers.specs.Below.{all_below}
 use Rattle.integers.proofs.Theorems.Below.{below, both}
 use Rattle.integers.specs.Tests.{every}
-use Rattle.frame_text.specs.Digits.{hex_digits, index_of, digit_char, digit_value, is_digit, hex, value_from, hex_value}
+use Rattle.frame_text.specs.Digits.{hex_digits, index_of, digit_char, digit_value, is_digit, digit_or_none, hex, value_from, hex_value}
 
 -- ---- one digit
 pub digit_value_char : (n : ℕ) → n < 16 → digit_value (digit_char n) ≡ n
@@ -46,6 +49,53 @@ index-le b (d ∷ l) = go (b == d) (index-le b l)
 
 pub digit_value_le : (b : ℕ) → digit_value b ≤ 16
 digit_value_le b = index-le b hex_digits
+
+-- the code goes by ranges of bytes: one computed test says that they give the digits' places
+abbrev by_ranges : ℕ → ℕ
+by_ranges b = cond (nat_lt b 48) 16 (cond (nat_lt b 58) (b - 48) (cond (nat_lt b 97) 16 (cond (nat_lt b 103) (b - 97 + 10) 16)))
+
+by_ranges-is : (b : ℕ) → b < 256 → digit_value b ≡ by_ranges b
+unfolding all_below index_of
+by_ranges-is b h = eqb-true (digit_value b) (by_ranges b) (below (λ n. nat_eq (digit_value n) (by_ranges n)) 256 refl b h)
+
+numbered : (b n : ℕ) → digit_value b ≡ n → n < 16 → digit_or_none b ≡ Some n
+numbered b n e h = ap (λ t. cond t (Some (digit_value b)) None) (lt-ltb (digit_value b) 16 (omega (arith, e))) ∙ ap Some e
+
+none : (b : ℕ) → digit_value b ≡ 16 → digit_or_none b ≡ None
+none b e = ap (λ t. cond t (Some (digit_value b)) None) (le-ltb (digit_value b) 16 (omega (arith, e)))
+
+pub decimal_digit : (b : ℕ) → 48 ≤ b → b < 58 → digit_or_none b ≡ Some (b - 48)
+decimal_digit b h k =
+    let e : by_ranges b ≡ b - 48 = simp (le-ltb b 48 h, lt-ltb b 58 k) in
+    numbered b (b - 48) (by_ranges-is b (omega arith) ∙ e) (omega arith)
+
+pub letter_digit : (b : ℕ) → 97 ≤ b → b < 103 → digit_or_none b ≡ Some (b - 97 + 10)
+letter_digit b h k =
+    let e : by_ranges b ≡ b - 97 + 10 = simp (le-ltb b 48 (omega arith), le-ltb b 58 (omega arith), le-ltb b 97 h, lt-ltb b 103 k) in
+    numbered b (b - 97 + 10) (by_ranges-is b (omega arith) ∙ e) (omega arith)
+
+pub no_digit_low : (b : ℕ) → b < 48 → digit_or_none b ≡ None
+no_digit_low b h =
+    let e : by_ranges b ≡ 16 = simp (lt-ltb b 48 h) in
+    none b (by_ranges-is b (omega arith) ∙ e)
+
+pub no_digit_between : (b : ℕ) → 58 ≤ b → b < 97 → digit_or_none b ≡ None
+no_digit_between b h k =
+    let e : by_ranges b ≡ 16 = simp (le-ltb b 48 (omega arith), le-ltb b 58 h, lt-ltb b 97 k) in
+    none b (by_ranges-is b (omega arith) ∙ e)
+
+pub no_digit_high : (b : ℕ) → 103 ≤ b → b < 256 → digit_or_none b ≡ None
+no_digit_high b h k =
+    let e : by_ranges b ≡ 16 = simp (le-ltb b 48 (omega arith), le-ltb b 58 (omega arith), le-ltb b 97 (omega arith), le-ltb b 103 h) in
+    none b (by_ranges-is b k ∙ e)
+
+-- where a byte that is no digit counts for 16, every byte counts for its number
+pub counted_value : (b : ℕ) → unwrap_or (digit_or_none b) 16 ≡ digit_value b
+counted_value b = go (is_digit b) refl
+  where
+    go : (t : Bool) → is_digit b ≡ t → unwrap_or (cond t (Some (digit_value b)) None) 16 ≡ digit_value b
+    go true e = refl
+    go false e = omega (arith, ltb-false (digit_value b) 16 e, digit_value_le b)
 
 -- ---- several
 pub hex-length : (width n : ℕ) → length (hex width n) ≡ width

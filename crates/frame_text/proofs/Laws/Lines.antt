@@ -5,14 +5,15 @@
 --   lines_cut, closes_cut              a line that is closed, and what comes after it
 --   closes_open                        a text of one line that is not closed
 --   body_cut, body_open                so of the text after a frame's first line
---   frame-cut                          and of a frame
+--   body_line, body_end                by a first line and what comes after it; none is closed
+--   frame-cut, frame_line, frame_open  and of a frame
 use Rattle.std.specs.Prelude.{◌≡◌, ℕ, suc, ◌<◌, ◌≤◌, Bool, true, false, cond, ◌&&◌, List, [], ◌∷◌, length, take, drop, ◌==◌, nat_le, refl}
-use Rattle.std.proofs.Common.{◌∙◌, ap, ap₂, arith}
+use Rattle.std.proofs.Common.{sym, ◌∙◌, ap, ap₂, arith, le-leb, ne_eqb}
 use Rattle.integers.specs.Units.{text_limit}
 use Rattle.integers.specs.Tests.{every}
 use Rattle.frame_text.specs.Lines.{newline, into_first_line, lines, closes}
 use Rattle.frame_text.specs.Reading.{is_head, is_contour, are_frame_lines, is_frame}
-use Rattle.frame_text.specs.Inner.{line_length, is_body}
+use Rattle.frame_text.specs.Inner.{line_length, FirstLine, is_body}
 
 pub line_length-le : (t : List ℕ) → line_length t ≤ length t
 unfolding line_length
@@ -94,6 +95,16 @@ body_cut t h =
 pub body_open : (t : List ℕ) → 0 < length t → length t ≤ line_length t → is_body t ≡ false
 body_open t h k = ap (λ a. a && every is_contour (lines t)) (closes_open t h k)
 
+-- the same of a first line and what comes after its end
+pub body_line : {t line after : List ℕ} → FirstLine t line after → is_body t ≡ (is_contour line && is_body after)
+body_line {t} f = body_cut t f.closed ∙ ap₂ (λ l r. is_contour l && is_body r) (sym f.line_is) (sym f.after_is)
+
+-- no line is closed: only nothing is left to read
+pub body_end : (t : List ℕ) → line_length t ≡ length t → is_body t ≡ (length t == 0)
+unfolding lines closes
+body_end [] e = refl
+body_end (b ∷ t) e = body_open (b ∷ t) (omega arith) (omega (arith, e)) ∙ sym (ne_eqb (length (b ∷ t)) 0 (omega arith))
+
 pub frame-cut : (t : List ℕ) → line_length t < length t
     → is_frame t ≡ (nat_le (length t) text_limit && (is_head (take (line_length t) t) && is_body (drop (suc (line_length t)) t)))
 frame-cut t h =
@@ -105,3 +116,7 @@ pub frame_open : (t : List ℕ) → length t ≤ line_length t → is_frame t �
 unfolding lines closes
 frame_open [] k = refl
 frame_open (b ∷ t) k = ap (λ a. nat_le (length (b ∷ t)) text_limit && (a && are_frame_lines (lines (b ∷ t)))) (closes_open (b ∷ t) (omega arith) k) ∙ and_false (nat_le (length (b ∷ t)) text_limit)
+
+pub frame_line : {t line after : List ℕ} → length t ≤ text_limit → FirstLine t line after → is_frame t ≡ (is_head line && is_body after)
+frame_line {t} h f =
+    frame-cut t f.closed ∙ ap₂ (λ a b. a && b) (le-leb (length t) text_limit h) (ap₂ (λ l r. is_head l && is_body r) (sym f.line_is) (sym f.after_is))

@@ -30,6 +30,15 @@ coordinates_next (a ∷ b ∷ []) h = absurd (omega arith)
 coordinates_next (a ∷ b ∷ c ∷ []) h = absurd (omega arith)
 coordinates_next (a ∷ b ∷ c ∷ d ∷ l) h = refl
 
+pub coordinates_four : (x l : List ℕ) → length x ≡ 4 → coordinates (x ++ l) ≡ pos (hex_value x) ∷ coordinates l
+unfolding coordinates
+coordinates_four [] l e = absurd (omega (arith, e))
+coordinates_four (a ∷ []) l e = absurd (omega (arith, e))
+coordinates_four (a ∷ b ∷ []) l e = absurd (omega (arith, e))
+coordinates_four (a ∷ b ∷ c ∷ []) l e = absurd (omega (arith, e))
+coordinates_four (a ∷ b ∷ c ∷ d ∷ []) l e = refl
+coordinates_four (a ∷ b ∷ c ∷ d ∷ f ∷ x) l e = absurd (omega (arith, e))
+
 pub coordinates_none : (l : List ℕ) → length l < 4 → coordinates l ≡ []
 unfolding coordinates
 coordinates_none [] h = refl

@@ -1,9 +1,8 @@
 -- The root's figure, or that of a child from its parent's.
 use Rattle.std.proofs.Common.{◌≡◌, ◌≢◌, sym, ◌∙◌, ap, subst, ℕ, suc, ◌-◌, arith}
-use Rattle.integers.proofs.Theorems.Bits.{result_is}
 use Rattle.haar.specs.Plane.{figure_in}
 use Rattle.haar.specs.Drawable.{DrawableCell}
-use Rattle.haar.proofs.Above.{root_is, cell_above, cell_refinable}
+use Rattle.haar.proofs.Above.{root_is, cell_above}
 use Rattle.haar.proofs.+figure_at.Goals as goal
 
 -- a level that is not 0 is the next one after another
@@ -19,8 +18,3 @@ pub figure_at-f-requires : goal.figure_at-f-requires
 figure_at-f-requires t c =
     let a = c.args in
     (omega arith, cell_above (subst (λ l. DrawableCell a.table.now l a.cx a.cy) (above a.level c.if-level-eq0.false) c.requires))
-
-pub child_figure-requires : goal.child_figure-requires
-child_figure-requires t c =
-    let a = c.args in
-    cell_refinable (subst (λ l. DrawableCell a.table.now l a.cx a.cy) (above a.level c.if-level-eq0.false) c.requires) (result_is c.figure_at-f.type_inv c.figure_at-f.ensures)

@@ -4,19 +4,23 @@
 --   bits, full_shift             the full figure is 2^(17 + 2 × depth)
 --   full_most                    and no greater than that of the deepest tile
 --   grey_quotient                (255 × n + full / 2) / full is 01's grey of n, for n up to full
+--   same_grey                    a magnitude held at the full figure has the figure's grey
 use mathlib.Core.Path.{◌≡◌, sym, ◌∙◌, ap, ap₂}
 use Prim.Native.Nat.{ℕ, ◌+◌, ◌*◌, ◌/◌, ◌^◌, ◌<◌, ◌≤◌}
 use native.Mathlib.Omega.{arith}
+use native.Mathlib.Decide.{dec_lt}
 use native.Mathlib.Nat.{two-mul, mul-div-mul_left, div-lt_iff_lt-mul}
 use lib.Pow.{pow-add, pow_mono}
-use lib.IntN.{pos, nat_abs, ◌*ℤ◌}
+use lib.IntN.{ℤ, pos, nat_abs, ◌*ℤ◌}
+use Rattle.std.specs.Prelude.{min}
 use Rattle.integers.specs.Units.{greatest_depth, full_grey}
 use Rattle.integers.proofs.Theorems.Order.{nonneg, pos-≤ℤ}
 use Rattle.integers.specs.Clamp.{clamp}
 use Rattle.integers.proofs.Theorems.Clamp.{clamp-inside}
 use Rattle.integers.specs.Rounding.{floor, round_half_up}
-use Rattle.haar.specs.Greys.{full, ink_grey}
-use Rattle.haar.proofs.Laws.InkGreys.{full-pos, ink_clamp}
+use Rattle.haar.specs.Greys.{full, ink_grey, SameGrey}
+use Rattle.haar.proofs.Laws.InkGreys.{full-pos, ink_clamp, ink_full}
+use Rattle.haar.proofs.Laws.Greys.{grey-full, grey-magnitude}
 
 -- a pixel has 2^17 units: `full_shift` fails where it has not
 abbrev pixel_bits : ℕ
@@ -48,3 +52,14 @@ module _ (side half : ℕ) {n N : ℕ} (e : N ≡ full side) (s : 0 < side) (k :
       let N>0 : 0 < N = omega (arith, full-pos s) in
       let b : q < full_grey + 1 = (div-lt_iff_lt-mul N>0).1 (omega arith) in
       sym (ap nat_abs (ink_clamp side (pos n) 1 ∙ ap (λ z. clamp z (pos 0) (pos full_grey)) rounded ∙ clamp-inside (nonneg q) (pos-≤ℤ (omega arith))))
+
+-- a magnitude from the full figure on has the full grey, and one below it is itself
+pub same_grey : (f : ℤ) {ink most : ℕ} → ink ≡ nat_abs f → SameGrey f most (min ink most)
+same_grey f {ink} {most} e = record {
+  few = omega arith;
+  same = λ side s r.
+      elim (dec_lt ink most) [
+        | yes h ↦ ap (λ n. ink_grey side (pos n) 1) (omega arith) ∙ sym (grey-magnitude side f ink e)
+        | no h ↦ ink_full s (omega arith) (pos-≤ℤ (omega arith)) ∙ sym (grey-full f s (omega arith) (omega (arith, e)))
+      ];
+}

@@ -1,7 +1,6 @@
 -- The root's grey alone, or the figures of the level above and then the greys.
-use Rattle.std.proofs.Common.{◌≡◌, refl, sym, ◌∙◌, ap, List, ℕ, suc, ◌-◌, ◌^◌, ◌<◌, ◌≤◌, set, length-set, ℤ, arith}
+use Rattle.std.proofs.Common.{◌≡◌, refl, sym, ◌∙◌, ap, List, ℕ, ◌-◌, ◌^◌, ◌≤◌, set, length-set, ℤ, arith, lit≤}
 use Rattle.std.proofs.Math.Nat.{pow-zero, pow-le-pow_right}
-use Rattle.std.proofs.Math.Path.{subst⁻¹}
 use Rattle.std.proofs.Math.Seq.{take_all}
 use Rattle.integers.specs.Units.{greatest_depth}
 use Rattle.haar.specs.Greys.{grey_of}
@@ -29,12 +28,8 @@ returns-then-level-eq0 c =
 above_few : (level most : ℕ) → level - 1 ≤ most → children dimensions ^ (level - 1) ≤ children dimensions ^ most
 above_few level most h = pow-le-pow_right {n = children dimensions} (omega arith) h
 
-above_picture : {entries : List ℤ} {level room : ℕ} → 0 < level → DrawablePicture entries level room → DrawablePicture entries (suc (level - 1)) room
-above_picture {entries} {level} {room} h d = subst⁻¹ (λ k. DrawablePicture entries k room) {y = level} (omega arith) d
+pub greys_in-requires-clause-places : goal.greys_in-requires-clause-places
+greys_in-requires-clause-places c = (above_few c.args.level 3 (omega arith), lit≤ tt)
 
-pub greys_by-requires : goal.greys_by-requires
-greys_by-requires c = (above_picture (omega arith) c.requires.0, above_few c.args.level 3 (omega arith), c.requires.1)
-
-pub greys_by-requires-2 : goal.greys_by-requires-2
-greys_by-requires-2 c =
-    (above_picture (omega arith) c.requires.0, above_few c.args.level (greatest_depth - 1) (omega (arith, c.requires.0.drawable.shallow)), c.requires.1)
+pub greys_in-requires-else-level-le-SHALLOW-clause-places : goal.greys_in-requires-else-level-le-SHALLOW-clause-places
+greys_in-requires-else-level-le-SHALLOW-clause-places c = (above_few c.args.level (greatest_depth - 1) (omega (arith, c.requires.0.drawable.shallow)), lit≤ tt)

@@ -3,7 +3,9 @@
 -- Main results
 --   placed_none                  with no placement nothing moves, whatever the list
 --   placed-length                as many coordinates as before
+--   as_many                      the same of points that the code hands on
 --   placed_x, placed_y           point k of the placed coordinates is point k, moved
+--   placed-take, placed-drop     the first points, placed, are the first of the placed coordinates; the others are the others
 --   placed_part                  a part between two points, placed, is that part of the placed coordinates
 --   placeable_at                 where question 12 is answered yes, it is of any two coordinates alone
 --   placeable_part               and of a part
@@ -14,6 +16,8 @@ use Rattle.integers.proofs.Theorems.Below.{both}
 use Rattle.integers.specs.Tests.{every}
 use Rattle.integers.proofs.Theorems.Every.{every_entry, every_part}
 use Rattle.placement.specs.Placed.{across_of, down_of, placed, floats_usable, is_movable, placeable}
+use Rattle.placement.specs.Coordinates.{coordinates}
+use Rattle.placement.specs.declared.points.PlacedPoints.{PlacedPoints}
 use Rattle.placement.specs.declared.Placement.{Placement}
 use Rattle.placement.specs.declared.Placement.TheVariants.{None, Shift, Scale, Turn}
 
@@ -29,12 +33,15 @@ placed-length p [] = refl
 placed-length p (x ∷ []) = refl
 placed-length p (x ∷ y ∷ rest) = ap (λ n. suc (suc n)) (placed-length p rest)
 
+pub as_many : (q : PlacedPoints) → length (coordinates q) ≡ length q.given.now
+as_many q = placed-length q.placement q.given.now
+
 -- two coordinates on for each point
 pair : (k : ℕ) → 2 * suc k ≡ suc (suc (2 * k))
 pair k = omega arith
 
 -- ---- a part that begins and ends between two points
-placed-take : (p : Placement) (n : ℕ) (l : List ℤ) → placed p (take (2 * n) l) ≡ take (2 * n) (placed p l)
+pub placed-take : (p : Placement) (n : ℕ) (l : List ℤ) → placed p (take (2 * n) l) ≡ take (2 * n) (placed p l)
 unfolding placed
 placed-take p zero l = refl
 placed-take p (suc n) [] = ap (λ m. placed p (take m [])) (pair n) ∙ sym (ap (λ m. take m (placed p [])) (pair n))
@@ -44,7 +51,7 @@ placed-take p (suc n) (x ∷ y ∷ l) =
     ∙ ap (λ r. across_of p x y ∷ down_of p x y ∷ r) (placed-take p n l)
     ∙ sym (ap (λ m. take m (placed p (x ∷ y ∷ l))) (pair n))
 
-placed-drop : (p : Placement) (n : ℕ) (l : List ℤ) → placed p (drop (2 * n) l) ≡ drop (2 * n) (placed p l)
+pub placed-drop : (p : Placement) (n : ℕ) (l : List ℤ) → placed p (drop (2 * n) l) ≡ drop (2 * n) (placed p l)
 unfolding placed
 placed-drop p zero l = refl
 placed-drop p (suc n) [] = ap (λ m. placed p (drop m [])) (pair n) ∙ sym (ap (λ m. drop m (placed p [])) (pair n))

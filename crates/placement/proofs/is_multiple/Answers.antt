@@ -16,6 +16,7 @@ use Rattle.placement.proofs.Laws.Comparisons.{inside_wider, inside_of, inside_lo
 use Rattle.placement.proofs.Laws.WholeFloats.{whole_fits}
 use Rattle.placement.proofs.Laws.TestedFloats.{Tested, tested}
 use Rattle.placement.proofs.is_multiple.Goals as goal
+use Rattle.placement.proofs.is_multiple.Goals.{else-bound-x-via-then-bound-x+else-x-bound, else-bound-x-via-else-bound-x}
 
 module _ (limit : ℕ) (x : Float) (h : limit ≤ offset_limit) where
   abbrev bound : Float
@@ -56,10 +57,12 @@ returns-then-x-bound c =
     let whole = c.truncating_f64_to_i64-whole in
     ap (λ (z : ℤ). eq c.in_parts-parts.result (of_int binary64 z)) (cut_at t whole.type_inv whole.ensures) ∙ t.back
 
-pub returns-else-x-bound : goal.returns-else-x-bound
-returns-else-x-bound c =
-    not-inside c.args.limit c.args.x (λ i. subst T c.if-x-bound.false (inside_high c.args.limit c.args.x _ (bound-is c.args.limit c.args.x c.requires) i))
-
-pub returns-else-bound-x : goal.returns-else-bound-x
-returns-else-bound-x c =
-    not-inside c.args.limit c.args.x (λ i. subst T c.if-bound-x.false (inside_low c.args.limit c.args.x _ (bound-is c.args.limit c.args.x c.requires) i))
+pub returns : goal.returns
+returns c =
+    let p = c.args in
+    let low = inside_low p.limit p.x _ (bound-is p.limit p.x c.requires) in
+    let high = inside_high p.limit p.x _ (bound-is p.limit p.x c.requires) in
+    elim c.else-bound-x.branch [
+      | else-bound-x-via-then-bound-x+else-x-bound w ↦ not-inside p.limit p.x (λ i. subst T w.if-x-bound.false (high i))
+      | else-bound-x-via-else-bound-x w ↦ not-inside p.limit p.x (λ i. subst T w.if-bound-x.false (low i))
+    ]

@@ -12,5 +12,5 @@ use Rattle.placement.proofs.turned.Goals as goal
 pub returns-clause-value_2 : goal.returns-clause-value_2
 returns-clause-value_2 c =
     let p = c.args in
-    let same = ap₂ (Exact.turned p.a p.b p.c) (to_z-of_z c.ranges.x) (to_z-of_z c.ranges.y) in
-    subst⁻¹ (λ (v : Float). Value v (parts_at p.a p.b p.c p.x p.y) parts_per_step) same (every-product_and_sum_is_exact c.requires).second_sum
+    let same = ap₂ (Exact.turned p.r.a p.r.b p.r.c) (to_z-of_z c.ranges.x) (to_z-of_z c.ranges.y) in
+    subst⁻¹ (λ (v : Float). Value v (parts_at p.r.a p.r.b p.r.c p.x p.y) parts_per_step) same (every-product_and_sum_is_exact c.requires).second_sum

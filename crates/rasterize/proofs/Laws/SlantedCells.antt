@@ -11,11 +11,11 @@ use Rattle.std.proofs.Common.{sym, ◌∙◌, ap, ap₂, subst, arith}
 use Rattle.std.proofs.Math.Path.{subst⁻¹}
 use Rattle.integers.proofs.Theorems.Linear.{le, lt, ◌&◌, linear, lin⊥}
 use Rattle.edge.specs.declared.Cell.{Cell as Square}
-use Rattle.edge.specs.declared.Walk.{Walk}
 use Rattle.edge.specs.Inside.{Inside}
 use Rattle.edge.specs.Room.{Even}
 use Rattle.edge.specs.Rounded.{details}
 use Rattle.edge.specs.Nested.{quarter}
+use Rattle.edge.specs.WalkOf.{Course}
 use Rattle.edge.proofs.Laws.WalkInside.{span_of_inside}
 use Rattle.slanted.specs.declared.Slope.{Slope}
 use Rattle.slanted.specs.declared.Piece.{Piece}
@@ -35,7 +35,7 @@ pub way_below : (l : Slope) (q : ℕ) → q < quarters → quarter_on_way l q < 
 way_below l q h = omega (arith, half_on_below l.x {k = q % 2} (omega arith), half_on_below l.y {k = q / 2} (omega arith))
 
 -- ---- in a cell
-module _ {w : Walk} {s : Square} {l : Slope} {k : Piece} (h : Slants w s l k) where
+module _ {w : Course} {s : Square} {l : Slope} {k : Piece} (h : Slants w s l k) where
   inside_is : k.first <ℤ k.last → (piece_of w s (half_width s)).first <ℤ (piece_of w s (half_width s)).last
   inside_is i = subst (λ (z : Piece). z.first <ℤ z.last) h.is_piece i
 

@@ -22,7 +22,7 @@ use Rattle.edge.specs.Nested.{OnRange, OnCell}
 use Rattle.edge.specs.Code.{before_middle, half_with}
 use Rattle.edge.proofs.Laws.Cells.{half_below, before_half_lem}
 use Rattle.rasterize.specs.declared.Node.{Node}
-use Rattle.rasterize.specs.declared.Stage.{Stage}
+use Rattle.rasterize.specs.declared.stages.Stage.{Stage}
 use Rattle.rasterize.specs.Nodes.{half_width, quarter_node, node_at}
 use Rattle.rasterize.specs.Stages.{stage_at, quarter_stage, stage_node, StageRoom}
 use Rattle.rasterize.specs.Ready.{OnSheet, Ready}

@@ -13,7 +13,7 @@ use Rattle.accuracy.specs.Tile.{cell_width}
 use Rattle.accuracy.proofs.Laws.EntryBounds.{tile_width_le}
 use Rattle.accuracy.proofs.Laws.Squares.{square-tile}
 use Rattle.rasterize.specs.declared.Node.{Node}
-use Rattle.rasterize.specs.declared.Stage.{Stage}
+use Rattle.rasterize.specs.declared.stages.Stage.{Stage}
 use Rattle.rasterize.specs.Nodes.{node_at}
 use Rattle.rasterize.specs.Contribution.{contribution}
 use Rattle.rasterize.specs.Ready.{square_of, Ready}
@@ -52,7 +52,7 @@ asked {t} {e} {depth} {p} is r o =
 pub add_from-requires : goal.add_from-requires
 add_from-requires c =
     let r = c.requires.0 in
-    asked c.first_stage.ensures r (on_tile c.args.depth (omega (arith, r.shallow)) c.tile_of-tile.ensures (c.lies_on.ensures.yes c.if-lies_on.true))
+    asked c.at.ensures r (on_tile c.args.depth (omega (arith, r.shallow)) c.tile_of-tile.ensures (c.lies_on.ensures.yes c.if-lies_on.true))
 
 -- a tile of one pixel has no details
 pub returns-else-depth-gt0 : goal.returns-else-depth-gt0

@@ -1,5 +1,5 @@
 -- The root's part, and the details.
-use Rattle.std.proofs.Common.{◌≡◌, ◌∙◌, ap, ◌≤◌, List, get_or, set, ℤ, pos, ◌+ℤ◌, arith}
+use Rattle.std.proofs.Common.{◌≡◌, ◌∙◌, ap, subst, ◌≤◌, List, get_or, set, ℤ, pos, ◌+ℤ◌, arith}
 use Rattle.std.proofs.Math.Path.{subst⁻¹}
 use Rattle.integers.proofs.Theorems.Order.{pos-≤ℤ}
 use Rattle.integers.specs.Units.{detail_limit}
@@ -8,7 +8,6 @@ use Rattle.integers.proofs.Theorems.Within.{within_le}
 use Rattle.integers.proofs.Theorems.Bits.{result_is}
 use Rattle.edge.specs.Room.{Room}
 use Rattle.accuracy.proofs.Laws.Squares.{square-tile}
-use Rattle.rasterize.specs.declared.Node.{Node}
 use Rattle.rasterize.specs.Added.{added}
 use Rattle.rasterize.specs.Nodes.{node_at}
 use Rattle.rasterize.specs.Contribution.{contribution}
@@ -21,9 +20,7 @@ rooted : (t : List ℤ) {u : List ℤ} {r s : ℤ} → r ≡ s → u ≡ set t 0
 rooted t e k = k ∙ ap (λ z. set t 0 (get_or t 0 (pos 0) +ℤ z)) e
 
 pub root_part-requires : goal.root_part-requires
-root_part-requires c =
-    let is = c.tile_of-tile.ensures in
-    (subst⁻¹ (λ (n : Node). Room c.args.e n.square) is (room_in c.requires.1), ap (λ (n : Node). n.square) is ∙ square-tile c.args.depth)
+root_part-requires c = (c.requires.0.shallow, subst (Room c.args.e) (square-tile c.args.depth) (room_in c.requires.1))
 
 pub add_at-requires : goal.add_at-requires
 add_at-requires c =

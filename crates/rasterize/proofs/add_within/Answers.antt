@@ -12,7 +12,7 @@ use Rattle.edge.specs.Rounded.{root_term}
 use Rattle.haar.specs.Cells.{children}
 use Rattle.haar.specs.Plane.{dimensions}
 use Rattle.rasterize.specs.declared.Spot.{Spot}
-use Rattle.rasterize.specs.declared.Stage.{Stage}
+use Rattle.rasterize.specs.declared.stages.Stage.{Stage}
 use Rattle.rasterize.specs.Added.{added, at_root}
 use Rattle.rasterize.specs.Nodes.{node_at}
 use Rattle.rasterize.specs.Contribution.{contribution}
@@ -82,7 +82,7 @@ add_at-requires c =
     )
 
 pub add_from-requires : goal.add_from-requires
-add_from-requires c = asked c.requires (result_is c.root_term.type_inv c.root_term.ensures) c.add_at.ensures c.cell_stage-start.ensures
+add_from-requires c = asked c.requires (result_is c.root_term.type_inv c.root_term.ensures) c.add_at.ensures c.at-start.ensures
 
 pub returns : goal.returns
-returns c = both c.requires (result_is c.root_term.type_inv c.root_term.ensures) c.add_at.ensures c.cell_stage-start.ensures c.add_from.ensures
+returns c = both c.requires (result_is c.root_term.type_inv c.root_term.ensures) c.add_at.ensures c.at-start.ensures c.add_from.ensures

@@ -1,4 +1,4 @@
--- Both lie between, or the first does not.
+-- Both lie between.
 use Rattle.std.proofs.Common.{◌≡◌, sym, ◌∙◌, ap₂, [], ◌∷◌, Bool, true≢false, ℤ, pos, SFits, w64, to_z-of_z}
 use Rattle.integers.proofs.Theorems.Linear.{le, linear, lin≤}
 use Rattle.integers.specs.Tests.{between}
@@ -24,8 +24,3 @@ returns-then-is_within c =
     let p = across c.ranges.width c.ranges.p c.is_within.ensures in
     let q = across c.ranges.width c.ranges.q c.is_within-then-is_within.ensures in
     record { yes = λ t. (p.yes c.if-is_within.true, q.yes t); no = λ t r. q.no t r.1 }
-
-pub returns-else-is_within : goal.returns-else-is_within
-returns-else-is_within c =
-    let p = across c.ranges.width c.ranges.p c.is_within.ensures in
-    record { yes = λ t. absurd (true≢false (sym t ∙ c.if-is_within.false)); no = λ t r. p.no t r.0 }

@@ -18,13 +18,12 @@ use Rattle.integers.specs.Clamp.{clamp}
 use Rattle.integers.specs.Magnitude.{abs}
 use Rattle.integers.specs.Rounding.{round_half_away, nearestℕ}
 use Rattle.edge.specs.declared.Cell.{Cell}
-use Rattle.edge.specs.declared.Walk.{Walk}
 use Rattle.edge.specs.Walk.{extent, sign}
 use Rattle.edge.specs.Cuts.{all_steps, strip, span}
 use Rattle.edge.specs.Room.{Room}
 use Rattle.edge.specs.Rounded.{details}
 use Rattle.edge.specs.Octilinear.{Octilinear, level, upright, diagonal}
-use Rattle.edge.specs.WalkOf.{IsWalk, fine, fine_walk}
+use Rattle.edge.specs.WalkOf.{Course, IsWalk, fine, fine_walk}
 use Rattle.edge.specs.Nested.{quarter, OnCell}
 use Rattle.edge.proofs.Laws.Letters.{g}
 use Rattle.slanted.specs.declared.Piece.{Piece}
@@ -39,7 +38,7 @@ use Rattle.slanted.proofs.Laws.PieceParts.{piece_part}
 abbrev tile : Cell
 tile = record { left = pos 0; top = pos 0; width = pos 512 }
 
-abbrev w : Walk
+abbrev w : Course
 w = fine_walk g
 
 walk : IsWalk w

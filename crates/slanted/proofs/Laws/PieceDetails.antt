@@ -14,12 +14,11 @@ use Rattle.integers.proofs.Theorems.RoundHalfAway.{round_half_away-neg, round_ha
 use Rattle.edge.specs.declared.Axis.{Axis}
 use Rattle.edge.specs.declared.Cell.{Cell}
 use Rattle.edge.specs.declared.Edge.{Edge}
-use Rattle.edge.specs.declared.Walk.{Walk}
 use Rattle.edge.specs.Walk.{steps, x_axis, y_axis}
 use Rattle.edge.specs.Integrals.{h_num, v_num, d_num}
 use Rattle.edge.specs.Rounded.{details}
 use Rattle.edge.specs.Octilinear.{Octilinear, unit_x, unit_y, unit_steps}
-use Rattle.edge.specs.WalkOf.{IsWalk, fine, unit, fine_walk, unit_walk}
+use Rattle.edge.specs.WalkOf.{Course, IsWalk, fine, unit, fine_walk, unit_walk}
 use Rattle.edge.proofs.Lemmas.Ends.{x_steady, y_steady}
 use Rattle.edge.proofs.Lemmas.Records.{details-eq}
 use Rattle.edge.proofs.Laws.StepCount.{steps_pos, rounded_whole}
@@ -47,7 +46,7 @@ neg-rounded : {a : Axis} {n : ℤ} → Moving a → pos 0 <ℤ n → (z : ℤ) �
 neg-rounded {a} m h z = ap neg_ℤ (signed-rounded m h z) ∙ sym (rounded-neg h (a.sign *ℤ z))
 
 -- ---- a walk z of the edge e
-abbrev Answers : Edge → Cell → ℤ → Walk → Type 0
+abbrev Answers : Edge → Cell → ℤ → Course → Type 0
 Answers e c half z = Moving z.x → Moving z.y → (piece_of z c half).first <ℤ (piece_of z c half).last → rounded_details (slope_of z) (piece_of z c half) ≡ details e c
 
 module _ (e : Edge) (c : Cell) (half : ℤ) (even : c.width ≡ half +ℤ half) (hh : pos 0 ≤ℤ half) where
@@ -77,7 +76,7 @@ module _ (e : Edge) (c : Cell) (half : ℤ) (even : c.width ≡ half +ℤ half) 
       by : {x q m : ℤ} → q ≡ x → m ≡ q *ℤ pos (steps e) → round_half_away x 1 ≡ round_half_away m (steps e)
       by {x} {q} p r = round_half_away_one x ∙ sym p ∙ sym (rounded_whole e q r)
 
-pub piece-details : {w : Walk} → IsWalk w → Moving w.x → Moving w.y → (c : Cell) (half : ℤ) → c.width ≡ half +ℤ half → pos 0 ≤ℤ half
+pub piece-details : {w : Course} → IsWalk w → Moving w.x → Moving w.y → (c : Cell) (half : ℤ) → c.width ≡ half +ℤ half → pos 0 ≤ℤ half
     → (piece_of w c half).first <ℤ (piece_of w c half).last → rounded_details (slope_of w) (piece_of w c half) ≡ details w.edge c
 piece-details {w} (fine o e) ma mb c half even hh = subst⁻¹ (Answers w.edge c half) e (fine_answers w.edge c half even hh) ma mb
 piece-details {w} (unit s e) ma mb c half even hh = subst⁻¹ (Answers w.edge c half) e (unit_answers w.edge c half even hh s) ma mb

@@ -20,10 +20,9 @@ use Rattle.integers.proofs.Theorems.MinMax.{min-≤ˡ, min-≤ʳ, min-greatest, 
 use Rattle.edge.specs.declared.Axis.{Axis}
 use Rattle.edge.specs.declared.Cell.{Cell}
 use Rattle.edge.specs.declared.Span.{Span}
-use Rattle.edge.specs.declared.Walk.{Walk}
 use Rattle.edge.specs.Cuts.{to_side, strip, strip_of, meet, to_middle}
 use Rattle.edge.specs.Nested.{quarter}
-use Rattle.edge.specs.WalkOf.{IsWalk}
+use Rattle.edge.specs.WalkOf.{Course, IsWalk}
 use Rattle.edge.proofs.Lemmas.Records.{span-eq}
 use Rattle.slanted.specs.declared.Piece.{Piece}
 use Rattle.slanted.specs.Pieces.{Moving, onward, back, piece_of}
@@ -195,7 +194,7 @@ halved k q {half} {p} h e = lin≡ (k ∷ half ∷ q ∷ p ∷ []) (eq e & eq tw
     twice : k *ℤ half ≡ k *ℤ (q +ℤ q)
     twice = ap (λ z. k *ℤ z) h
 
-pub piece_part : {w : Walk} → IsWalk w → Moving w.x → Moving w.y → (c : Cell) (half q : ℤ) → c.width ≡ half +ℤ half → half ≡ q +ℤ q → pos 0 ≤ℤ q
+pub piece_part : {w : Course} → IsWalk w → Moving w.x → Moving w.y → (c : Cell) (half q : ℤ) → c.width ≡ half +ℤ half → half ≡ q +ℤ q → pos 0 ≤ℤ q
     → (p : ℕ) → p < 4 → {r : Piece} → IsPart (piece_of w c half) p r
     → r ≡ piece_of w (quarter c half (half_on w.x.sign (p % 2)) (half_on w.y.sign (p / 2))) q
 piece_part {w} k ma mb c half q even h q≥0 p l {r} t = piece_eq first last mid_x mid_y half_x_lem half_y_lem

@@ -17,13 +17,12 @@ use Rattle.integers.specs.Within.{Within}
 use Rattle.integers.proofs.Theorems.Within.{bounds}
 use Rattle.edge.specs.declared.Axis.{Axis}
 use Rattle.edge.specs.declared.Cell.{Cell}
-use Rattle.edge.specs.declared.Walk.{Walk}
 use Rattle.edge.specs.Walk.{steps, x_axis, y_axis}
 use Rattle.edge.specs.Cuts.{to_middle}
 use Rattle.edge.specs.Octilinear.{unit_x, unit_y, unit_steps}
 use Rattle.edge.specs.Room.{crossing_limit, Even, Room}
 use Rattle.edge.specs.Code.{Closed, AxisRoom}
-use Rattle.edge.specs.WalkOf.{IsWalk, fine, unit}
+use Rattle.edge.specs.WalkOf.{Course, IsWalk, fine, unit}
 use Rattle.edge.proofs.Lemmas.Ends.{x_steady, y_steady}
 use Rattle.edge.proofs.Laws.WalkInside.{unit_x_steady, unit_y_steady}
 use Rattle.slanted.specs.declared.Slope.{Slope}
@@ -72,11 +71,11 @@ arch_of {a} mv side half {w} {u} {v} even hh r h i j f t = record {
     }
 
 -- ---- both, from the first step inside to the last
-record Ends (c : Cell) (half : ℤ) (z : Walk) : Type 0 where
+record Ends (c : Cell) (half : ℤ) (z : Course) : Type 0 where
   first : Closed z.x c.left c.width (piece_of z c half).first × Closed z.y c.top c.width (piece_of z c half).first
   last : Closed z.x c.left c.width (piece_of z c half).last × Closed z.y c.top c.width (piece_of z c half).last
 
-ends_closed : {w : Walk} → IsWalk w → (c : Cell) (half : ℤ) → c.width ≡ half +ℤ half → pos 0 ≤ℤ half → (piece_of w c half).first <ℤ (piece_of w c half).last → Ends c half w
+ends_closed : {w : Course} → IsWalk w → (c : Cell) (half : ℤ) → c.width ≡ half +ℤ half → pos 0 ≤ℤ half → (piece_of w c half).first <ℤ (piece_of w c half).last → Ends c half w
 ends_closed {w} (fine o e) c half even hh =
     subst⁻¹ (λ z. (piece_of z c half).first <ℤ (piece_of z c half).last → Ends c half z) e
     (λ inside. record {
@@ -97,7 +96,7 @@ between {u} {v} {n} h i j k = (
   record { low = lin≤ (u ∷ v ∷ []) (le h & le i) (search linear depth 40) tt; high = ≤ℤ_trans j k },
 )
 
-pub piece_sound : {w : Walk} → IsWalk w → Moving w.x → Moving w.y → (c : Cell) (half : ℤ) → Room w.edge c → c.width ≡ half +ℤ half → pos 0 ≤ℤ half
+pub piece_sound : {w : Course} → IsWalk w → Moving w.x → Moving w.y → (c : Cell) (half : ℤ) → Room w.edge c → c.width ≡ half +ℤ half → pos 0 ≤ℤ half
     → (piece_of w c half).first <ℤ (piece_of w c half).last → Sound (slope_of w) (piece_of w c half)
 piece_sound {w} k ma mb c half r even hh inside =
     let room = walk-room k r in
@@ -121,6 +120,6 @@ even_times : {k half : ℤ} (q : ℤ) → pos 0 ≤ℤ k → half ≡ q +ℤ q �
 even_times {k} {half} q h e n =
     record { half = k *ℤ q; half≥0 = ≤ℤ-mul-nonneg h n; twice = ap (λ z. k *ℤ z) e ∙ ring (k ∷ q ∷ []) (search read depth 40) tt }
 
-pub piece_even : {w : Walk} → IsWalk w → (c : Cell) {half : ℤ} (q : ℤ) → half ≡ q +ℤ q → pos 0 ≤ℤ q
+pub piece_even : {w : Course} → IsWalk w → (c : Cell) {half : ℤ} (q : ℤ) → half ≡ q +ℤ q → pos 0 ≤ℤ q
     → Even (piece_of w c half).half_x × Even (piece_of w c half).half_y
 piece_even k c q e h = let s = walk_steady k in (even_times q s.0.scaled e h, even_times q s.1.scaled e h)

@@ -16,12 +16,11 @@ use Rattle.integers.proofs.Theorems.Within.{within_sub, within_mul, within_self,
 use Rattle.edge.specs.declared.Axis.{Axis}
 use Rattle.edge.specs.declared.Cell.{Cell}
 use Rattle.edge.specs.declared.Edge.{Edge}
-use Rattle.edge.specs.declared.Walk.{Walk}
 use Rattle.edge.specs.Walk.{extent, dx, dy, ax, ay, steps}
 use Rattle.edge.specs.Octilinear.{unit_steps}
 use Rattle.edge.specs.Room.{coordinate_limit, extent_limit, crossing_limit, Room}
 use Rattle.edge.specs.Code.{AxisRoom}
-use Rattle.edge.specs.WalkOf.{IsWalk, fine, unit, fine_walk, unit_walk}
+use Rattle.edge.specs.WalkOf.{Course, IsWalk, fine, unit, fine_walk, unit_walk}
 use Rattle.edge.proofs.Laws.StepCount.{extent-pos, steps_pos}
 use Rattle.edge.proofs.Laws.Cells.{extent_at_most}
 use Rattle.edge.proofs.Laws.WalkInside.{unit_x_steady, unit_y_steady}
@@ -29,9 +28,9 @@ use Rattle.edge.proofs.Lemmas.Ends.{Direction, forward, still, backward, directi
 use Rattle.slanted.specs.Pieces.{Moving, onward, back}
 
 -- ---- scales and signs
-pub walk_steady : {w : Walk} → IsWalk w → Steady w.x × Steady w.y
-walk_steady {w} (fine o e) = subst⁻¹ (λ (z : Walk). Steady z.x × Steady z.y) e (x_steady w.edge, y_steady w.edge)
-walk_steady {w} (unit s e) = subst⁻¹ (λ (z : Walk). Steady z.x × Steady z.y) e (unit_x_steady w.edge, unit_y_steady w.edge)
+pub walk_steady : {w : Course} → IsWalk w → Steady w.x × Steady w.y
+walk_steady {w} (fine o e) = subst⁻¹ (λ (z : Course). Steady z.x × Steady z.y) e (x_steady w.edge, y_steady w.edge)
+walk_steady {w} (unit s e) = subst⁻¹ (λ (z : Course). Steady z.x × Steady z.y) e (unit_x_steady w.edge, unit_y_steady w.edge)
 
 moving : {a : Axis} → Steady a → (a.sign ≡ pos 0 → ⊥) → Moving a
 moving {a} s n = go s.signed refl
@@ -41,11 +40,11 @@ moving {a} s n = go s.signed refl
     go still e = absurd (n e)
     go backward e = back e
 
-pub moving-walk : {w : Walk} → IsWalk w → (w.x.sign ≡ pos 0 → ⊥) → (w.y.sign ≡ pos 0 → ⊥) → Moving w.x × Moving w.y
+pub moving-walk : {w : Course} → IsWalk w → (w.x.sign ≡ pos 0 → ⊥) → (w.y.sign ≡ pos 0 → ⊥) → Moving w.x × Moving w.y
 moving-walk k i j = let s = walk_steady k in (moving s.0 i, moving s.1 j)
 
 -- ---- ranges
-pub record WalkRoom (c : Cell) (w : Walk) : Type 0 where
+pub record WalkRoom (c : Cell) (w : Course) : Type 0 where
   pub x : AxisRoom w.x c.left c.width
   pub y : AxisRoom w.y c.top c.width
   pub steps : w.steps ≤ℤ pos crossing_limit
@@ -131,6 +130,6 @@ module _ {e : Edge} {c : Cell} (r : Room e c) where
     limit = lin≤ [] none! (search linear depth 40) tt;
   }
 
-pub walk-room : {w : Walk} {c : Cell} → IsWalk w → Room w.edge c → WalkRoom c w
+pub walk-room : {w : Course} {c : Cell} → IsWalk w → Room w.edge c → WalkRoom c w
 walk-room {c = c} (fine o e) r = subst⁻¹ (WalkRoom c) e (fine_room r)
 walk-room {c = c} (unit s e) r = subst⁻¹ (WalkRoom c) e (unit_room r)

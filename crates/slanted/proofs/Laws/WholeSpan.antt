@@ -15,12 +15,11 @@ use Rattle.edge.specs.declared.Axis.{Axis}
 use Rattle.edge.specs.declared.Cell.{Cell}
 use Rattle.edge.specs.declared.Edge.{Edge}
 use Rattle.edge.specs.declared.Span.{Span}
-use Rattle.edge.specs.declared.Walk.{Walk}
 use Rattle.edge.specs.Walk.{sign, dx, dy, ax, ay, beyond}
 use Rattle.edge.specs.Octilinear.{Octilinear, level, upright, diagonal, unit_x, unit_y, unit_steps}
 use Rattle.edge.specs.Cuts.{to_side, all_steps, strip, strip_of, span}
 use Rattle.edge.specs.Nested.{OnRange, OnCell}
-use Rattle.edge.specs.WalkOf.{IsWalk, fine, unit, unit_walk}
+use Rattle.edge.specs.WalkOf.{Course, IsWalk, fine, unit, unit_walk}
 use Rattle.edge.proofs.Lemmas.Ends.{sign-extent, sign_zero, x_end, y_end}
 use Rattle.slanted.specs.Pieces.{Moving, onward, back}
 use Rattle.slanted.proofs.Laws.Walks.{walk_steady}
@@ -55,7 +54,7 @@ still_not : {a : Axis} → Moving a → a.sign ≡ pos 0 → ⊥
 still_not {a} (onward e) z = lin⊥ (a.sign ∷ []) (eq e & eq z) (search linear depth 40) tt
 still_not {a} (back e) z = lin⊥ (a.sign ∷ []) (eq e & eq z) (search linear depth 40) tt
 
-record Ends (w : Walk) (c : Cell) : Type 0 where
+record Ends (w : Course) (c : Cell) : Type 0 where
   x : beyond w.x c.left w.steps ≡ w.x.scale *ℤ (w.edge.x1 -ℤ c.left)
   y : beyond w.y c.top w.steps ≡ w.y.scale *ℤ (w.edge.y1 -ℤ c.top)
   x_start : w.x.start ≡ w.edge.x0
@@ -75,19 +74,19 @@ unit_ends e c d = record { x = x_end_unit; y = y_end_unit; x_start = refl; y_sta
         ap (λ n. pos 1 *ℤ (e.y0 -ℤ c.top) +ℤ sign (dy e) *ℤ pos n) (ap (λ n. max n (ay e)) d ∙ max-eq_left (le_refl (ay e)))
         ∙ comb (e.y0 ∷ e.y1 ∷ c.top ∷ sign (dy e) ∷ pos (ay e) ∷ []) (pos 1 ⊗ sign-extent (dy e)) (search read depth 40) tt
 
-walk_ends : {w : Walk} → IsWalk w → Moving w.x → Moving w.y → (c : Cell) → Ends w c
+walk_ends : {w : Course} → IsWalk w → Moving w.x → Moving w.y → (c : Cell) → Ends w c
 walk_ends {w} (fine o k) i j c =
-    subst⁻¹ (λ (z : Walk). Ends z c) k (record { x = x_end w.edge c.left; y = y_end w.edge c.top; x_start = refl; y_start = refl })
-walk_ends {w} (unit s k) i j c = subst⁻¹ (λ (z : Walk). Ends z c) k (go s)
+    subst⁻¹ (λ (z : Course). Ends z c) k (record { x = x_end w.edge c.left; y = y_end w.edge c.top; x_start = refl; y_start = refl })
+walk_ends {w} (unit s k) i j c = subst⁻¹ (λ (z : Course). Ends z c) k (go s)
   where
     -- a level or an upright edge would stand still
     go : Octilinear w.edge → Ends (unit_walk w.edge) c
-    go (level h) = absurd (still_not j (ap (λ (z : Walk). z.y.sign) k ∙ sign_zero h))
-    go (upright h) = absurd (still_not i (ap (λ (z : Walk). z.x.sign) k ∙ sign_zero h))
+    go (level h) = absurd (still_not j (ap (λ (z : Course). z.y.sign) k ∙ sign_zero h))
+    go (upright h) = absurd (still_not i (ap (λ (z : Course). z.x.sign) k ∙ sign_zero h))
     go (diagonal h) = unit_ends w.edge c h
 
 -- ---- both directions
-pub span_whole : {w : Walk} → IsWalk w → Moving w.x → Moving w.y → (c : Cell) → OnCell c w.edge → span w.x w.y c w.steps ≡ all_steps w.steps
+pub span_whole : {w : Course} → IsWalk w → Moving w.x → Moving w.y → (c : Cell) → OnCell c w.edge → span w.x w.y c w.steps ≡ all_steps w.steps
 span_whole {w} k i j c o =
     ap₂ (λ f l. record { first = f; last = l }) (max_eqˡ (max_least x.from y.from)) (min_eqˡ (min-greatest x.to y.to))
   where

@@ -33,14 +33,14 @@ rounded {l} r t h e = held_back t (record {
 pub nearest-r-requires : goal.nearest-r-requires
 nearest-r-requires c =
     let r = c.requires in
-    let k = small (x_sum r c.under_tent-h.ensures).is r.arch_x in
+    let k = small (x_sum r c.under-h.ensures).is r.arch_x in
     let n = divisor_back r in
     (k.0, k.1, n.0, n.1)
 
 pub nearest-v-requires : goal.nearest-v-requires
 nearest-v-requires c =
     let r = c.requires in
-    let k = small (y_sum r c.under_tent.ensures).is r.arch_y in
+    let k = small (y_sum r c.under.ensures).is r.arch_y in
     let n = divisor_back r in
     (k.0, k.1, n.0, n.1)
 
@@ -49,8 +49,8 @@ signed-requires c =
     let r = c.requires in (
       r.x,
       r.y,
-      held_within (rounded r tt (x_sum r c.under_tent-h.ensures) c.nearest-r.ensures),
-      held_within (rounded r tt (y_sum r c.under_tent.ensures) c.nearest-v.ensures),
+      held_within (rounded r tt (x_sum r c.under-h.ensures) c.nearest-r.ensures),
+      held_within (rounded r tt (y_sum r c.under.ensures) c.nearest-v.ensures),
     )
 
 pub returns : goal.returns
@@ -59,6 +59,6 @@ returns c =
     let r = c.requires in
     c.signed.ensures
     ∙ signed_by_eq c.args.l
-    (rounded r tt (x_sum r c.under_tent-h.ensures) c.nearest-r.ensures).is
-    (rounded r tt (y_sum r c.under_tent.ensures) c.nearest-v.ensures).is
+    (rounded r tt (x_sum r c.under-h.ensures) c.nearest-r.ensures).is
+    (rounded r tt (y_sum r c.under.ensures) c.nearest-v.ensures).is
     (rounded r tt (turned_sum r refl) c.turned_over.ensures).is

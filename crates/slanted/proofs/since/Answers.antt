@@ -1,7 +1,6 @@
 -- The first step in a half.
-use Rattle.std.proofs.Common.{sym, ◌∙◌, ap₂, to_z-of_z}
-use Rattle.integers.specs.MinMax.{max}
-use Rattle.integers.proofs.Theorems.Bits.{result_is}
+use Rattle.std.proofs.Common.{sym, ◌∙◌, to_z-of_z}
+use Rattle.edge.proofs.Laws.Methods.{max-answer}
 use Rattle.slanted.proofs.HalfTests.{since_before, since_after}
 use Rattle.slanted.proofs.since.Goals as goal
 
@@ -10,4 +9,4 @@ returns-then-k-eq0 c = to_z-of_z c.ranges.t ∙ sym (since_before c.args.t c.arg
 
 pub returns-else-k-eq0 : goal.returns-else-k-eq0
 returns-else-k-eq0 c =
-    result_is c.high.type_inv (c.high.ensures ∙ ap₂ max (to_z-of_z c.ranges.t) (to_z-of_z c.ranges.m) ∙ sym (since_after c.args.t c.args.m c.if-k-eq0.false))
+    max-answer c.max.type_inv c.max.ensures.value (to_z-of_z c.ranges.t) (to_z-of_z c.ranges.m) ∙ sym (since_after c.args.t c.args.m c.if-k-eq0.false)

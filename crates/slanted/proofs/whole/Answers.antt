@@ -14,7 +14,7 @@ itself e z = sym (ap (λ n. round_half_away z (nat_abs n)) e ∙ round_half_away
 pub signed-requires : goal.signed-requires
 signed-requires c =
     let r = c.requires.0 in
-    (r.x, r.y, held_within (x_sum r c.under_tent-h.ensures), held_within (y_sum r c.under_tent-v.ensures))
+    (r.x, r.y, held_within (x_sum r c.under-h.ensures), held_within (y_sum r c.under-v.ensures))
 
 pub returns : goal.returns
 unfolding rounded_details
@@ -23,6 +23,6 @@ returns c =
     let one = itself c.requires.1 in
     c.signed.ensures
     ∙ signed_by_eq c.args.l
-    ((x_sum r c.under_tent-h.ensures).is ∙ one _)
-    ((y_sum r c.under_tent-v.ensures).is ∙ one _)
+    ((x_sum r c.under-h.ensures).is ∙ one _)
+    ((y_sum r c.under-v.ensures).is ∙ one _)
     ((held_back tt (turned_sum r c.turned.ensures)).is ∙ one _)

@@ -2,7 +2,7 @@
 --
 -- Main results
 --   entries-in-range, in-range-entries        question 9 is `haar`'s `InRange`
---   level_le                                  a level of a tile is no deeper than a tile can be
+--   level_le, level_shallow, tile_shallow     a level of a tile is no deeper than a tile can be, nor is the tile
 --   drawable-picture, drawable-cell,
 --   drawable-pyramid                          what is not refused can be drawn
 use Rattle.std.specs.Prelude.{◌≡◌, refl, List, ℕ, ◌^◌, ◌≤◌, length, ℤ, pos}
@@ -16,9 +16,11 @@ use Rattle.haar.specs.Cells.{children}
 use Rattle.haar.specs.Plane.{dimensions}
 use Rattle.haar.specs.Drawable.{InRange, Drawable, DrawablePicture, DrawableCell}
 use Rattle.haar.specs.Pyramid.{DrawablePyramid}
-use Rattle.tile.specs.Questions.{Yes, depth_of, question1, question2, question7, question9}
+use Rattle.tile.specs.Questions.{Yes, depth_of, first_no, question1, question2, question7, question9, table_questions}
+use Rattle.tile.specs.Inner.{level_questions}
 use Rattle.tile.specs.Outcomes.{draw_refusal, cell_refusal, pyramid_refusal}
 use Rattle.tile.proofs.Theorems.Refusals.{drawing_refusals, cell_refusals, pyramid_refusals, question8_all_means, question2_means, question7_means, question8_means, question9_means, question10_means}
+use Rattle.tile.proofs.Laws.FirstNo.{first_no-zero}
 use Rattle.tile.proofs.Laws.Sides.{side_depth, side_cells}
 
 -- ---- entries
@@ -46,6 +48,15 @@ module _ (side level : ℕ) (yes1 : Yes (question1 side)) (yes7 : Yes (question7
         long = le_trans (pow-le-pow_right (lit< tt) shallow) (le_of_eq (sym cells));
         in_range_lem = entries-in-range table yes9;
       }
+
+-- by what the questions about the level, or about the tile alone, answered
+pub level_shallow : (side level : ℕ) (table : List ℤ) → 0 ≡ first_no (level_questions side level table) → level ≤ greatest_depth
+level_shallow side level table e =
+    let y = (first_no-zero (level_questions side level table) tt).0 (sym e) in
+    level_le side level y.0 y.1.1.0
+
+pub tile_shallow : (side : ℕ) (table : List ℤ) → 0 ≡ first_no (table_questions side table) → depth_of side ≤ greatest_depth
+tile_shallow side table e = side_depth side ((first_no-zero (table_questions side table) tt).0 (sym e)).0
 
 pub drawable-picture : (side level : ℕ) (table : List ℤ) (size : ℕ) → draw_refusal side level table size ≡ 0 → DrawablePicture table level size
 drawable-picture side level table size e =

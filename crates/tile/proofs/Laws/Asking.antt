@@ -8,11 +8,16 @@
 --   found_no, found_yes        the same by what the code found
 --   refused, passed            and by the test of its negation
 --   first_refused, first_passed    the same of the questions that a list begins with
-use Rattle.std.specs.Prelude.{◌≡◌, refl, Bool, true, false, not, cond, List, [], ◌∷◌, ◌++◌, ℕ, zero, suc, get_or, drop}
+--   first_asked, rest_asked        by what a call answered that asks them
+use Rattle.std.specs.Prelude.{◌≡◌, refl, Bool, true, false, not, cond, T, List, [], ◌∷◌, ◌++◌, ℕ, zero, suc, get_or, drop}
 use Rattle.std.proofs.Common.{sym, ◌∙◌, ap}
 use Rattle.std.proofs.lemmas.Bool.{not-true, not-false}
 use Rattle.integers.specs.ListSum.{All}
+use Rattle.tile.specs.declared.refusal.Refusal.{Refusal}
+use Rattle.tile.specs.Answers.{number_of}
 use Rattle.tile.specs.Questions.{Question, Yes, first_no}
+use Rattle.tile.proofs.Theorems.Numbers.{never_done}
+use Rattle.tile.proofs.Laws.FirstNo.{apart, first_no-zero}
 
 pub record After (qs : List Question) (k : ℕ) : Type 0 where
   pub same : first_no qs ≡ first_no (drop k qs)
@@ -67,3 +72,10 @@ first_refused (q ∷ qs) rs h = number_stays q.answer (first_no qs) (first_no (q
 pub first_passed : (qs rs : List Question) → All Yes qs → first_no (qs ++ rs) ≡ first_no rs
 first_passed [] rs y = refl
 first_passed (q ∷ qs) rs y = ap (λ b. cond b (first_no (qs ++ rs)) q.number) y.0 ∙ first_passed qs rs y.1
+
+-- a call refuses them, or it does not, and what asks the rest answers n
+pub first_asked : (qs rs : List Question) (r : Refusal) → number_of r ≡ first_no qs → number_of r ≡ first_no (qs ++ rs)
+first_asked qs rs r e = e ∙ first_refused qs rs (λ z. never_done r (e ∙ z))
+
+pub rest_asked : (qs rs : List Question) {n : ℕ} → T (apart qs) → 0 ≡ first_no qs → n ≡ first_no rs → n ≡ first_no (qs ++ rs)
+rest_asked qs rs t z e = e ∙ sym (first_passed qs rs ((first_no-zero qs t).0 (sym z)))

@@ -16,7 +16,7 @@ use Rattle.placement.specs.declared.Placement.TheVariants.{None}
 use Rattle.placement.specs.Placed.{placed}
 use Rattle.placement.proofs.Laws.PlacedPoints.{placed_none, placed-length}
 use Rattle.accuracy.specs.Outline.{edge_count}
-use Rattle.tile.specs.declared.Built.{Built}
+use Rattle.tile.specs.Answers.{Built}
 use Rattle.tile.specs.Questions.{Yes, first_no, question1, question2, question3, question4, question5, question6, question12, table_questions, outline_questions}
 use Rattle.tile.specs.Outcomes.{if_done, table_of, build_refusal, build_result, build_table, placed_refusal, placed_result, placed_table}
 use Rattle.tile.specs.Faithful.{FaithfulPlaced}

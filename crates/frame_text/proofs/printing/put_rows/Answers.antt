@@ -1,5 +1,5 @@
 -- The next row, and what is left after it.
-use Rattle.std.proofs.Common.{◌≡◌, ℕ, suc, ◌+◌, ◌-◌, ◌*◌, ◌<◌, ◌≤◌, List, ◌++◌, length, take, drop, sym, ap, ◌∙◌, suc-mul, arith, length-drop, drop-drop}
+use Rattle.std.proofs.Common.{◌≡◌, ℕ, suc, ◌+◌, ◌-◌, ◌*◌, ◌<◌, ◌≤◌, List, ◌++◌, length, take, drop, sym, ap, ◌∙◌, suc-mul, mul-add, arith, length-drop, drop-drop}
 use Rattle.frame_text.specs.Over.{over}
 use Rattle.frame_text.specs.Lines.{line_text}
 use Rattle.frame_text.specs.OutputLines.{grey_width, rows_text}
@@ -44,16 +44,22 @@ pub loop-y-preserved : goal.loop-y-preserved
 loop-y-preserved c =
     let l = c.loop-y in
     let across = c.args.across in
-    let greys = drop l.from c.args.picture.now in
-    let e : l.from + across - l.from ≡ across = omega arith in
-    rows_step l.invariant c.loop-y-test.true
-    (part_over l.at l.out (line_text grey_width (take across greys))
-    (c.put_row.ensures ∙ ap (λ k. over (line_text grey_width (take k greys)) (take (length l.out - l.at) (drop l.at l.out))) e))
+    let at = (2 * across + 1) * l.y in
+    let from = across * l.y in
+    let greys = drop from c.args.picture.now in
+    let e : from + across - from ≡ across = omega arith in
+    let i : at + (2 * across + 1) ≡ (2 * across + 1) * (l.y + 1) = omega (arith, mul-add (2 * across + 1) l.y 1) in
+    let j : from + across ≡ across * (l.y + 1) = omega (arith, mul-add across l.y 1) in
+    rw (← i, ← j)
+    (rows_step l.invariant c.loop-y-test.true
+    (part_over at l.out (line_text grey_width (take across greys))
+    (c.put_row.ensures ∙ ap (λ k. over (line_text grey_width (take k greys)) (take (length l.out - at) (drop at l.out))) e)))
 
 pub returns : goal.returns
 unfolding rows_text
 returns c =
     let l = c.loop-y in
     let a = c.args.across in
+    let at = (2 * a + 1) * l.y in
     let none : a - l.y ≡ 0 = omega arith in
-    sym (over_end l.at l.out) ∙ sym (ap (λ k. over_at l.at (rows_text a k (drop l.from c.args.picture.now)) l.out) none) ∙ l.invariant.left
+    sym (over_end at l.out) ∙ sym (ap (λ k. over_at at (rows_text a k (drop (a * l.y) c.args.picture.now)) l.out) none) ∙ l.invariant.left

@@ -13,4 +13,4 @@ pub record RowsLeft (across : ℕ) (out₀ picture out : List ℕ) (at from y : 
   pub left : over_at at (rows_text across (across - y) (drop from picture)) out ≡ over (rows_text across across picture) out₀
 
 abbrev pub invariant-loop-y : goal.invariant-loop-y
-invariant-loop-y l = RowsLeft l.across l.fn.out l.picture l.out l.at l.from l.y
+invariant-loop-y l = RowsLeft l.across l.fn.out l.picture l.out (l.length * l.y) (l.across * l.y) l.y

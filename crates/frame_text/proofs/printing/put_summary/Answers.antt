@@ -1,5 +1,6 @@
 -- The edge count, the root, and the end of the line.
-use Rattle.std.proofs.Common.{◌≡◌, ℕ, ◌+◌, ◌-◌, ◌≤◌, List, [], ◌∷◌, ◌++◌, length, take, drop, set, ℤ, sym, ap, ◌∙◌, arith, to_z-of_z}
+use Rattle.std.proofs.Common.{◌≡◌, ℕ, ◌+◌, ◌-◌, ◌≤◌, List, [], ◌∷◌, ◌++◌, length, take, drop, set, ℤ, pos, negsuc, w64, refl, sym, ap, ◌∙◌, arith, to_z-of_z}
+use Rattle.std.specs.Int.{cast_unsigned}
 use borrow.Rule.Slice.PartMut.{put_mid}
 use Rattle.frame_text.specs.Over.{over}
 use Rattle.frame_text.specs.Digits.{hex, twos_complement}
@@ -26,8 +27,14 @@ summary-written edges root out counted part h e d =
     ∙ written 4 bits (newline ∷ []) counted is (omega arith) twenty
     ∙ written 0 (hex 4 edges) (bits ++ (newline ∷ [])) out e (omega arith) four
 
+bits_are : (z : ℤ) → cast_unsigned w64 z ≡ twos_complement z
+unfolding twos_complement
+bits_are (pos n) = refl
+bits_are (negsuc n) = refl
+
 pub returns : goal.returns
 returns c =
     let counted = c.put_hex.new.out in
     summary-written c.args.edges c.args.root c.args.out.now counted c.put_hex-2.new.out c.requires c.put_hex.ensures
-    (c.put_hex-2.ensures ∙ ap (λ v. over (hex 16 v) (take (length counted - 4) (drop 4 counted))) (c.twos_complement.ensures ∙ ap twos_complement (to_z-of_z c.ranges.root)))
+    (c.put_hex-2.ensures ∙ ap (λ v. over (hex 16 v) (take (length counted - 4) (drop 4 counted)))
+    (c.cast_unsigned.ensures ∙ bits_are _ ∙ ap twos_complement (to_z-of_z c.ranges.root)))

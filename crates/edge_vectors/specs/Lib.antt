@@ -1,2 +1,0 @@
--- What the program's tests show.
-pub mod Ready

@@ -1,2 +1,0 @@
--- What the program keeps of a table.
-pub mod Entries
