@@ -6,6 +6,8 @@ pub mod Theorems
 pub mod Laws
 -- a coordinate, and its bits
 pub mod Coordinates
+-- a curve's chords are few
+pub mod FewChords
 -- edges that are left to add
 pub mod Left
 -- the mark that is next

@@ -11,11 +11,11 @@
 //
 #![tactic(auto)]
 
-ghost use Rattle.std.specs.Prelude.{◌≡◌, ◌+◌, ◌*◌, ◌^◌, ◌<◌, ◌≤◌, cond, length};
+ghost use Rattle.std.specs.Prelude.{◌≡◌, ◌*◌, ◌≤◌, cond, length};
 ghost use Rattle.integers.specs.Units.{most_points};
 ghost use Rattle.integers.specs.ListSum.{All};
 ghost use Rattle.curve.specs.Curve.{OnSheet};
-ghost use Rattle.accuracy.specs.Outline.{edge_between, edge_count};
+ghost use Rattle.accuracy.specs.Outline.{edge_count};
 ghost use Rattle.placement.specs.Coordinates.{coordinates};
 ghost use Rattle.rasterize.specs.Added.{added};
 ghost use Rattle.rasterize.specs.Ready.{Fits};
@@ -23,11 +23,12 @@ ghost use Rattle.rasterize.specs.Views.{InView};
 ghost use Rattle.rasterize.specs.Laws.Sums.{edges_part};
 ghost use Rattle.chords.specs.declared.Side.TheVariants.{Curved};
 ghost use Rattle.chords.specs.Sides.{marked_contours};
-ghost use Rattle.chords.specs.Chords.{splits_of, chord_point, chords_of, contour_chords, outline_chords};
-ghost use Rattle.chords.specs.Inner.{capped_chords};
+ghost use Rattle.chords.specs.Chords.{chords_of, contour_chords, outline_chords};
+ghost use Rattle.chords.specs.Inner.{capped_chords, curve_of};
 ghost use Rattle.chords.specs.Marked.{is_straight, side_by, contour_of};
 ghost use Rattle.chords.specs.Laws.SidesWithin.{SideWithin};
 
+use curved::Chords;
 use edge::Edge;
 use marked::{Mark, MarkedPoints};
 use placement::Point;
@@ -35,6 +36,7 @@ use placement::points::PlacedPoints;
 use rasterize::Pass;
 use sides::Sides;
 
+mod curved;
 pub mod marked;
 pub mod sides;
 
@@ -50,6 +52,7 @@ pub struct Curve {
 }
 
 // An edge as it is marked.
+// That its points are on a sheet is no part of it: specs/Sides.antt lists the sides of contours with any points.
 #[derive(Clone, Copy)]
 pub enum Side {
     Straight(Edge),
@@ -61,42 +64,6 @@ const MOST_EDGES: usize = 1024;
 
 // ---- one side
 
-// k, of a curve's 2^k chords.
-fn splits(c: Curve) -> usize
-    requires { SideWithin OnSheet (Curved c) }
-    ensures { result ≡ splits_of c }
-{
-    let across = curve::bend(c.x0, c.cx, c.x1);
-    let down = curve::bend(c.y0, c.cy, c.y1);
-    curve::splits_of(across, down)
-}
-
-// End i of a curve's 2^k chords.
-fn chord_point(c: Curve, k: usize, i: usize) -> Point
-    requires { SideWithin OnSheet (Curved c) × (k ≡ splits_of c) × (i ≤ 2 ^ k) }
-    ensures { (result.x ≡ (chord_point c i).x) × (result.y ≡ (chord_point c i).y) }
-{
-    Point {
-        x: curve::chord_end(c.x0, c.cx, c.x1, k, i),
-        y: curve::chord_end(c.y0, c.cy, c.y1, k, i),
-    }
-}
-
-// Chord i of a curve's 2^k.
-fn chord(c: Curve, k: usize, i: usize) -> Edge
-    requires { SideWithin OnSheet (Curved c) × (k ≡ splits_of c) × (i < 2 ^ k) }
-    ensures { result ≡ edge_between (chord_point c i) (chord_point c (i + 1)) }
-{
-    let from = chord_point(c, k, i);
-    let to = chord_point(c, k, i + 1);
-    Edge {
-        x0: from.x,
-        y0: from.y,
-        x1: to.x,
-        y1: to.y,
-    }
-}
-
 // How many edges a side is drawn as.
 fn chords_in(side: Side) -> usize
     requires { SideWithin OnSheet side }
@@ -104,18 +71,17 @@ fn chords_in(side: Side) -> usize
 {
     match side {
         Side::Straight(_) => 1,
-        Side::Curved(c) => curve::chords_at(splits(c)),
+        Side::Curved(c) => Chords::of(c).count(),
     }
 }
 
 // Adds the chords of a curve.
-fn add_curve(table: &mut [i64], c: Curve, pass: Pass)
-    requires { Fits table.old pass.depth (length (chords_of (Curved c))) × All (InView pass.view pass.depth) (chords_of (Curved c)) × SideWithin OnSheet (Curved c) }
-    ensures { table.new ≡ added table.old (edges_part pass.view pass.depth pass.sign (chords_of (Curved c))) }
+fn add_chords(table: &mut [i64], chords: Chords, pass: Pass)
+    requires { Fits table.old pass.depth (length (chords_of (Curved (curve_of chords)))) × All (InView pass.view pass.depth) (chords_of (Curved (curve_of chords))) }
+    ensures { table.new ≡ added table.old (edges_part pass.view pass.depth pass.sign (chords_of (Curved (curve_of chords)))) }
 {
-    let k = splits(c);
-    for i in 0..curve::chords_at(k) {
-        rasterize::add_edge(table, chord(c, k, i), pass);
+    for i in 0..chords.count() {
+        rasterize::add_edge(table, chords.chord(i), pass);
     }
 }
 
@@ -126,7 +92,7 @@ fn add_side(table: &mut [i64], side: Side, pass: Pass)
 {
     match side {
         Side::Straight(e) => rasterize::add_edge(table, e, pass),
-        Side::Curved(c) => add_curve(table, c, pass),
+        Side::Curved(c) => add_chords(table, Chords::of(c), pass),
     }
 }
 

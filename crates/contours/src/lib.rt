@@ -105,7 +105,8 @@ fn lies_on_cell(e: Edge, c: Spot) -> bool
 }
 
 // The cell in which a run from the edge's first point on would lie. It may be no cell of the tile, on whose right and lower border points lie too. The contract
-// gives its level alone: any cell would do, since the caller tests it, and this one lets runs begin.
+// gives its level alone: any cell would do, since the caller tests it, and this one lets runs begin. So a spot does not know that it is on the tile, nor a depth that runs have levels above them:
+// what needs it asks it.
 fn cell_from(e: Edge, depth: usize) -> Spot
     requires { run_levels ≤ depth }
     ensures { result.level + run_levels ≡ depth }

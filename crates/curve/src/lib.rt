@@ -16,15 +16,7 @@ const MOST_SPLITS: usize = 7;
 // A bend of four steps, either way, leaves a single chord at most one step from its curve.
 const BEND_OF_ONE_CHORD: i64 = 4;
 
-// Four times how far the middle of the curve is from the middle of its chord: 0 for a straight one that is walked evenly.
-pub fn bend(p: i64, q: i64, r: i64) -> i64
-    requires { OnSheet p × OnSheet q × OnSheet r }
-    ensures { result ≡ bend_of p q r }
-{
-    p - 2 * q + r
-}
-
-// How many chords k splits make.
+// How many chords k splits make. (That k is at most 7 is asked where it is needed: the definitions count by the number.)
 pub fn chords_at(k: usize) -> usize
     requires { k ≤ most_splits }
     ensures { result ≡ 2 ^ k }
@@ -62,16 +54,23 @@ pub fn splits_of(u: i64, v: i64) -> usize
     MOST_SPLITS
 }
 
-// One coordinate of a curve on a sheet: those of its ends, p and r, and that of its control point, q.
+// What a curve on a sheet is in one coordinate, x or y: p and r are those of its ends, q that of its control point.
 #[derive(Clone, Copy)]
-struct Points {
-    p: i64,
-    q: i64,
-    r: i64,
-    ghost on_sheet: { OnSheet p × OnSheet q × OnSheet r },
+pub struct Projection {
+    pub p: i64,
+    pub q: i64,
+    pub r: i64,
+    pub ghost on_sheet: { OnSheet p × OnSheet q × OnSheet r },
 }
 
-impl Points {
+impl Projection {
+    // Four times how far the middle of the curve is from the middle of its chord: 0 for a straight one that is walked evenly.
+    pub fn bend(self) -> i64
+        ensures { result ≡ bend_of self.p self.q self.r }
+    {
+        self.p - 2 * self.q + self.r
+    }
+
     // n² times where the curve is at the parameter i / n.
     fn num(self, n: i64, i: i64) -> i64
         requires { Within (pos most_chords) n × Within (pos most_chords) i }
@@ -90,6 +89,14 @@ impl Points {
     {
         round_half_up(self.num(n, i), n * n)
     }
+
+    // End i of the 2^k chords.
+    pub fn chord_end(self, k: usize, i: usize) -> i64
+        requires { (k ≤ most_splits) × (i ≤ 2 ^ k) }
+        ensures { result ≡ chord_end self.p self.q self.r k i }
+    {
+        self.at(chords_at(k) as i64, i as i64)
+    }
 }
 
 // n / d to the nearest whole number, halves up, for n that is not negative.
@@ -98,12 +105,4 @@ fn round_half_up(n: i64, d: i64) -> i64
     ensures { result ≡ round_half_up n (nat_abs d) }
 {
     (2 * n + d) / (2 * d)
-}
-
-// End i of the 2^k chords.
-pub fn chord_end(p: i64, q: i64, r: i64, k: usize, i: usize) -> i64
-    requires { OnSheet p × OnSheet q × OnSheet r × (k ≤ most_splits) × (i ≤ 2 ^ k) }
-    ensures { result ≡ chord_end p q r k i }
-{
-    Points { p, q, r }.at(chords_at(k) as i64, i as i64)
 }

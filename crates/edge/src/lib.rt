@@ -50,7 +50,8 @@ mod quarter;
 use integers::div_round_half_away;
 pub use quarter::{before_half, half_with, lies_in_half, quarter_details};
 
-// From (x0, y0) to (x1, y1).
+// From (x0, y0) to (x1, y1). An edge is made before anything is known of its range: `edge_from` of `contours` promises one of any points. So that it is
+// `Measured` is asked where it is used.
 #[derive(Clone, Copy)]
 pub struct Edge {
     pub x0: i64,
@@ -114,7 +115,7 @@ pub struct Span {
 }
 
 // A number at each of the four cuts: the first step, two middles in their order, the last step; or those steps. By name and not in an array, as `cuts_at` and
-// `SamplesClosed` of `specs/` say them.
+// `SamplesClosed` of `specs/` say them; and of any range, since they are steps at one time and distances at another.
 #[derive(Clone, Copy)]
 pub struct Samples {
     pub first: i64,
@@ -400,7 +401,8 @@ fn numerators(a: Across, b: Across, k: Samples) -> Details
     }
 }
 
-// To the nearest whole number, halves away from zero. Over 1 a number is whole, and nothing is divided.
+// To the nearest whole number, halves away from zero. Over 1 a number is whole, and nothing is divided. (That n is above 0 is asked here and in `round_all`
+// alone: a type for it would be longer than the two.)
 fn round_one(m: i64, n: i64) -> i64
     requires { pos 0 <ℤ n }
     ensures { result ≡ round_half_away m (nat_abs n) }

@@ -53,7 +53,7 @@ fn put_row(out: &mut [u8], row: &[u8])
     requires { row_length (length row.now) ≤ length out.old }
     ensures { out.new ≡ over (line_text grey_width row.now) out.old }
 {
-    // Places are counted: nothing is known of a slice that `chunks_exact_mut` has cut.
+    // Places are counted: over `chunks_exact_mut`, or a slice that shrinks, the loop keeps nothing of what `put_hex` left, and the proof stayed open.
     for (i, &grey) in row.iter().enumerate() {
         put_hex(&mut out[GREY_WIDTH * i..], grey as u64, GREY_WIDTH);
     }

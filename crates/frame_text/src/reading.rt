@@ -102,9 +102,13 @@ fn read_coordinates(line: &[u8], points: &mut [i64])
     requires { length line.now ≤ coordinate_width * length points.old }
     ensures { points.new ≡ over (coordinates line.now) points.old }
 {
-    // Places are counted: nothing is known of points that a `zip` with `iter_mut` has written.
-    for (i, digits) in line.chunks_exact(COORDINATE_WIDTH).enumerate() {
-        points[i] = value_of(digits) as i64;
+    // Two walks side by side: after a `zip` with `iter_mut` nothing is known of the points, and its proof stayed open.
+    let mut numbers = line.chunks_exact(COORDINATE_WIDTH);
+    for point in points {
+        let Some(digits) = numbers.next() else {
+            break;
+        };
+        *point = value_of(digits) as i64;
     }
 }
 
@@ -119,6 +123,7 @@ pub fn read_contours(body: &[u8], points: &mut [i64], counts: &mut [u32]) -> Siz
         coordinates: 0,
         contours: 0,
     };
+    // Places are counted, as the two counts are the answer.
     let mut rest = body;
     while let Some((line, after)) = next_line(rest) {
         read_coordinates(line, &mut points[size.coordinates..]);

@@ -53,7 +53,8 @@ struct Pair {
     right: i64,
 }
 
-// How many cells a level has in each direction.
+// How many cells a level has in each direction. (Levels and depths are plain numbers, here and in the crates above, and that they are at most 6 is asked where
+// it is needed: all definitions count by them, so that a type of their own would have to be turned into the number in every clause.)
 pub fn cells_across(level: usize) -> usize
     requires { level ≤ greatest_depth }
     ensures { result ≡ 2 ^ level }

@@ -48,8 +48,8 @@ fn first_outside(numbers: &[i64], low: i64, high: i64) -> Option<usize>
 }
 
 // The place of the first number that is not from low to high, or None where all are. How many numbers were looked at is told by it: one more than that
-// place, or all of them; what it says, `looked_least` and `looked_all` of specs/Search. That nothing after that number is read is to be seen in the loop; a
-// contract speaks of answers.
+// place, or all of them (`looked_least` and `looked_all` of `Search`). That nothing after that number is read is to be seen in the loop: a contract speaks of
+// answers.
 pub fn search_within(numbers: &[i64], low: i64, high: i64) -> Option<usize>
     ensures first_value { result ≡ first_failing (between low high) numbers.now }
     ensures within_value { is_none result ≡ every (between low high) numbers.now }

@@ -53,7 +53,7 @@ pub struct Matrix {
     pub f: f64,
 }
 
-// What is done to an outline before it is drawn.
+// What is done to an outline before it is drawn. (Nothing is a case among others, and no Option, since `placed_result` and the theorems name it.)
 #[derive(Clone, Copy)]
 pub enum Placement {
     None,

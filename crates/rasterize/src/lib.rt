@@ -74,7 +74,7 @@ pub enum View {
 }
 
 // What is done with edges that go into one table. The tile's side is 2^depth, and the view says how it has the edges. Each is added where the sign is 1, and
-// taken out where it is -1; where it is 0 the table stays.
+// taken out where it is -1; where it is 0 the table stays. (A number, since `add_edge` promises so many times the edge's table, 0 times too.)
 #[derive(Clone, Copy)]
 pub struct Pass {
     pub view: View,

@@ -111,7 +111,8 @@ fn signed_square(z: i64) -> i64
     z * z.abs()
 }
 
-// m / n to the nearest whole number, a half going up. m is not negative.
+// m / n to the nearest whole number, a half going up. m is not negative. (The range of n stands in three contracts: it is the divisor of a slope, and a struct
+// of this one number would be taken apart at once in each.)
 fn nearest(m: i64, n: i64) -> i64
     requires { (pos 0 ≤ℤ m) × (m ≤ℤ pos sum_limit) × (pos 0 <ℤ n) × (n ≤ℤ pos crossing_limit) }
     ensures { result ≡ round_half_away m (nat_abs n) }

@@ -48,7 +48,8 @@ pub const NONE_IN: u32 = 0;
 
 // ---- the questions
 
-// Question 1: exactly one bit of the side is set, and it is no greater than the greatest.
+// Question 1: exactly one bit of the side is set, and it is no greater than the greatest. (The ones are counted, as 01 has it, and `is_power_of_two` is not
+// asked, which means the same.)
 pub fn is_side(side: u32) -> bool
     ensures { result ≡ (question1 side).answer }
 {

@@ -27,7 +27,7 @@ use placement::{Matrix, Placement};
 use sheet::{SheetTile, Site};
 use tile::{Refusal, number_of_answer};
 
-// Past every factor's limit, so that question 12 refuses it.
+// Past every factor's limit, so that question 12 refuses it. (An Option would have to be told apart in each of the calls, whose contracts say `placement_of`.)
 const NO_FACTOR: f64 = 4.0;
 
 // An answer of two numbers: the first is returned, and the second is written, or `none` beside a refusal.

@@ -1,5 +1,5 @@
-// What the test programs read and print: the input into a list, words, numbers, and in place of a long line of numbers its checksum. No
-// printing function has a contract: what a program prints is compared with its `stdout`.
+// What the test programs read and print: the input into a list, and a line of numbers, or in place of a long one its checksum. What is printed has no
+// contract: what a program prints is compared with its `stdout`.
 #![tactic(auto)]
 
 ghost use Rattle.std.specs.Prelude.{◌≤◌, length, take};
@@ -25,6 +25,7 @@ pub fn read_full<R: Read>(input: &mut R, list: &mut [u8]) -> usize
     ensures bytes { Consumes (R.remaining input.old) (R.remaining input.new) (take result list.new) }
 {
     let mut done = 0;
+    // A `while`, as each read answers how many bytes it gave, which no list or range tells before.
     while done < list.len() {
         match input.read(&mut list[done..]) {
             Ok(0) | Err(_) => break,
@@ -34,56 +35,26 @@ pub fn read_full<R: Read>(input: &mut R, list: &mut [u8]) -> usize
     done
 }
 
-pub fn words<W: Write>(out: &mut W, text: &[u8]) -> Result<()> {
-    out.write_all(text)
-}
-
-// A name, a space and the number.
-pub fn named<W: Write>(out: &mut W, name: &[u8], n: u64) -> Result<()> {
-    words(out, name)?;
-    write!(out, " {n}")
-}
-
-// The number, with nothing before its sign.
-pub fn decimal<W: Write>(out: &mut W, q: i64) -> Result<()> {
-    write!(out, "{q}")
-}
-
-// A space and the number.
-pub fn number<W: Write>(out: &mut W, q: i64) -> Result<()> {
-    words(out, b" ")?;
-    decimal(out, q)
-}
-
-// ---- a line of n numbers, or their checksum
+// ---- a line of numbers, or their checksum
 
 // The checksum with one more number, the number modulo MODULUS being its digit.
 fn mixed(sum: u64, q: i64) -> u64 {
     (sum % MODULUS * BASE + q.rem_euclid(MODULUS as i64) as u64) % MODULUS
 }
 
-// One number of a line of n. Answers the checksum so far.
-pub fn tell<W: Write>(out: &mut W, n: usize, sum: u64, q: i64) -> Result<u64> {
-    if n <= SHORT {
-        number(out, q)?;
-        return Ok(sum);
-    }
-    Ok(mixed(sum, q))
-}
-
-// The end of a line of n.
-pub fn end<W: Write>(out: &mut W, n: usize, sum: u64) -> Result<()> {
-    if SHORT < n {
-        named(out, b" checksum", sum)?;
-    }
-    words(out, b"\n")
-}
-
-// The numbers, of any type that converts to i64.
+// The numbers, of any type that converts to i64, each after a space; or their checksum, where they are many.
 pub fn numbers<W: Write, T: Copy + Into<i64>>(out: &mut W, list: &[T]) -> Result<()> {
-    let mut sum = 0;
-    for q in list {
-        sum = tell(out, list.len(), sum, (*q).into())?;
+    if list.len() <= SHORT {
+        for q in list {
+            let q: i64 = (*q).into();
+            write!(out, " {q}")?;
+        }
+    } else {
+        let mut sum = 0;
+        for q in list {
+            sum = mixed(sum, (*q).into());
+        }
+        write!(out, " checksum {sum}")?;
     }
-    end(out, list.len(), sum)
+    writeln!(out)
 }

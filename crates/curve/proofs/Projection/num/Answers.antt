@@ -8,7 +8,7 @@ use Rattle.integers.specs.Bits.{back}
 use Rattle.integers.specs.Held.{Held}
 use Rattle.integers.proofs.Theorems.Held.{held_number, held-add, held_sub, held-mul, held_fits, held_back}
 use Rattle.curve.specs.Curve.{OnSheet}
-use Rattle.curve.proofs.Points.num.Goals as goal
+use Rattle.curve.proofs.Projection.num.Goals as goal
 
 two : Held 2 (pos 2) (pos 2)
 two = record { is = refl; within = within_self (nonneg 2) }

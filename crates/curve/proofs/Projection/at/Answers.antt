@@ -13,7 +13,7 @@ use Rattle.integers.specs.Held.{Held}
 use Rattle.integers.proofs.Theorems.Held.{held_number, held-mul, held_fits, held_back}
 use Rattle.curve.specs.Curve.{curve_num}
 use Rattle.curve.proofs.Numerators.{num_low, num_high}
-use Rattle.curve.proofs.Points.at.Goals as goal
+use Rattle.curve.proofs.Projection.at.Goals as goal
 
 square : {n : ℤ} → pos 1 ≤ℤ n → n ≤ℤ pos most_chords → Held (most_chords * most_chords) (back n *ℤ back n) (n *ℤ n)
 square {n} h k =
