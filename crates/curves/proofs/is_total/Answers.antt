@@ -18,8 +18,8 @@ pub loop-item-preserved : goal.loop-item-preserved
 loop-item-preserved g c = λ f h.
     let l = c.loop-item in
     let e = c.in-Some.ensures in
-    subst⁻¹ (Down f c.args.items.now c.args.size (l.item-index + 1)) {y = l.left - c.own.result} e.1
-    (down_next f c.args.items.now c.args.size l.item-index l.left (l.invariant f h) c.item-item.is c.loop-item-test.true (h c.item-item.result c.own.result c.own.ensures) e.0)
+    subst⁻¹ (Down f c.args.items.now c.args.size (l.item-index + 1)) {y = l.left - c.own.result} (omega (arith, e.1))
+    (down_next f c.args.items.now c.args.size l.item-index l.left (l.invariant f h) c.item-item.is c.loop-item-test.true (h c.item-item.result c.own.result c.own.ensures) (omega (arith, e.0)))
 
 pub returns : goal.returns
 returns g c = λ f h. let l = c.loop-item in down_end f c.args.items.now c.args.size l.item-index l.left (l.invariant f h) c.loop-item-test.false
