@@ -4,11 +4,12 @@
 // `stdin` has the cases, each kind under a comment, and `stdout` what must be printed, as `answers` of rust/ makes it.
 #![tactic(auto)]
 
-ghost use Rattle.std.specs.Prelude.{pos, IfSome, IsTrue, ◌-ℤ◌, ◌*ℤ◌, ◌≤ℤ◌};
+ghost use Rattle.std.specs.Prelude.{pos, IfSome, IsTrue, ◌≡◌, ◌+ℤ◌, ◌-ℤ◌, ◌*ℤ◌, ◌≤ℤ◌};
 ghost use Rattle.integers.specs.Units.{width_times_extent_limit};
 ghost use Rattle.integers.specs.Within.{Within};
 ghost use Rattle.edge.specs.Walk.{extent};
 ghost use Rattle.edge.specs.Room.{coordinate_limit, Even, Room};
+ghost use Rattle.edge_vectors.specs.Named.{Named};
 
 use edge::{Cell, Edge, Walk};
 use std::io;
@@ -37,14 +38,14 @@ fn is_limited(x: i64) -> bool
 
 // A coordinate that is in range.
 fn limited(x: i64) -> Option<i64>
-    ensures { IfSome result (λ y. Within (pos coordinate_limit) y) }
+    ensures { IfSome result (λ y. (y ≡ x) × Within (pos coordinate_limit) y) }
 {
     if is_limited(x) { Some(x) } else { None }
 }
 
 // The width that half of it gives, and so an even one.
 fn width_of(half: i64) -> Option<i64>
-    ensures { IfSome result (λ w. Even w × (w ≤ℤ pos width_times_extent_limit)) }
+    ensures { IfSome result (λ w. (w ≡ half +ℤ half) × Even w × (w ≤ℤ pos width_times_extent_limit)) }
 {
     if (0..=LIMIT / 2).contains(&half) {
         Some(half + half)
@@ -65,7 +66,7 @@ fn has_room(from: i64, to: i64, width: i64) -> bool
 impl Case {
     // The case that the numbers of a line name, where there is room for all that `edge` works out.
     fn of(numbers: [i64; NUMBERS]) -> Option<Case>
-        ensures { IfSome result (λ c. Room c.edge c.cell) }
+        ensures { IfSome result (λ c. Named numbers c × Room c.edge c.cell) }
     {
         let [x0, y0, x1, y1, left, top, half] = numbers;
         let edge = Edge {

@@ -1,6 +1,6 @@
 // Searches, by question 9's bounds: how many numbers were looked at, and whether all are within. What must be printed is made by `answers` of rust/, by
 // 02's "one more than the least place out of range, or all of them where there is none".
-use integers::search_within;
+use integers::{looked_within, search_within};
 use std::io::{Result, Write};
 
 // 2^40, the greatest entry that question 9 lets pass.
@@ -10,9 +10,10 @@ const LIMIT: i64 = 1 << 40;
 const ENTRIES: usize = 4096;
 
 fn show<W: Write>(out: &mut W, numbers: &[i64]) -> Result<()> {
+    let looked = looked_within(numbers, -LIMIT, LIMIT);
     match search_within(numbers, -LIMIT, LIMIT) {
-        None => writeln!(out, "looked at {}, within", numbers.len()),
-        Some(i) => writeln!(out, "looked at {}, not within", i + 1),
+        None => writeln!(out, "looked at {looked}, within"),
+        Some(_) => writeln!(out, "looked at {looked}, not within"),
     }
 }
 

@@ -68,6 +68,16 @@ pub fn search_within(numbers: &[i64], low: i64, high: i64) -> Option<usize>
     }
 }
 
+// How many numbers the search looked at: one more than the place where it ended, or all of them.
+pub fn looked_within(numbers: &[i64], low: i64, high: i64) -> usize
+    ensures { result ≡ looked_at (between low high) numbers.now }
+{
+    match search_within(numbers, low, high) {
+        Some(i) => i + 1,
+        None => numbers.len(),
+    }
+}
+
 // Is every number from low to high?
 pub fn all_within(numbers: &[i64], low: i64, high: i64) -> bool
     ensures { result ≡ every (between low high) numbers.now }

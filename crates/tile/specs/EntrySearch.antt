@@ -1,8 +1,8 @@
 -- The search behind question 9 (02, P2): "let its loop end at the first entry out of range and answer how many entries it looked at: one more than the
 -- least place out of range, or all of them where there is none. Every public result is as it was."
 --
--- Proved of `search_entries`, for every table: its answer tells both, question 9's and the count. To be read in the code: that the loop of `search_within` of
--- `integers` returns at that entry, and that question 9 is asked by `search_entries` alone, whose count no call passes on. It is public for `corrections`,
+-- Proved of `search_entries`, for every table: its answer tells both, question 9's and the count, which `entries_looked_at` answers. To be read in the code:
+-- that the loop of `search_within` of `integers` returns at that entry, and that question 9 is asked by `search_entries` alone; no call passes the count on. It is public for `corrections`,
 -- whose calls ask question 9 too. `Questions`, `Outcomes` and `Faithful`, which are all that the contracts of this crate's calls cite of it, and `Corrections`
 -- and `Holding` of that one, know nothing of the count.
 --

@@ -12,6 +12,8 @@
 pub mod Questions
 -- what an answer says: a value, or a refusal and its number
 pub mod Answers
+-- and the words of a refusal
+pub mod Words
 -- what each call answers, and what its buffers hold afterwards
 pub mod Outcomes
 -- ---- demand 1: each number comes under its question, and under no other condition; a refusal leaves everything as it was

@@ -125,14 +125,22 @@ fn is_pyramid(side: u32, size: usize) -> bool
     size == haar::places_to(depth_of(side))
 }
 
-// Question 9, which is asked of the whole table whatever is drawn of it: the place of the first entry that is out of range. How many entries were looked at
-// is 02's answer beside it: what the two say is in specs/EntrySearch. Question 9 is asked through this one alone, and no call passes the place on.
+// Question 9, which is asked of the whole table whatever is drawn of it: the place of the first entry that is out of range. What that says of the question
+// and of the count is in specs/EntrySearch. Question 9 is asked through this one alone, and no call passes the place on.
 pub fn search_entries(table: &[i64]) -> Option<usize>
     ensures within_value { is_none result ≡ (question9 table.now).answer }
     ensures looked_value { looked_of (length table.now) result ≡ entries_looked_at table.now }
     ensures table_value { table.now ≡ table.now }
 {
     integers::search_within(table, -ENTRY_LIMIT, ENTRY_LIMIT)
+}
+
+// How many entries that search looks at, 02's answer beside question 9's: one more than the place of the first out of range, or all of them.
+pub fn entries_looked_at(table: &[i64]) -> usize
+    ensures value { result ≡ entries_looked_at table.now }
+    ensures table_value { table.now ≡ table.now }
+{
+    integers::looked_within(table, -ENTRY_LIMIT, ENTRY_LIMIT)
 }
 
 // Question 10.

@@ -63,6 +63,11 @@ pub fn number_of_answer<T: Copy>(answer: Result<T, Refusal>) -> u32
 
 // What is wrong, in one line.
 impl fmt::Display for Refusal {
+    ghost use Rattle.std.specs.Prelude.{Some};
+    ghost use Rattle.tile.specs.Words.{words_of};
+
+    ghost output = { λ refusal. Some (words_of refusal) };
+
     fn fmt<W: fmt::Write>(&self, f: &mut fmt::Formatter<W>) -> fmt::Result {
         f.write_str(match self {
             Refusal::Side => "the side is none of 1, 2, 4, 8, 16, 32 and 64",
