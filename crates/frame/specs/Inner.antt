@@ -9,8 +9,9 @@
 --   outline_text f table                                what is printed of a frame, by what the two calls answer
 --   outline_refusal f, frame_output, frame_table_after  the refusal of a frame, what is printed of it, and what the table then holds
 --   is_deeper, level_refusal                            a level that no tile of this side has, and what is then refused
---   answered r                                          the answer that is printed, of what an inner function answers: a picture, or a refusal
-use Rattle.std.specs.Prelude.{Bool, cond, ◌||◌, List, ◌++◌, ℕ, ◌*◌, ◌^◌, leb, ltb, ℤ, pos, get_or, take, replicate, Result, Ok, Err}
+--   blank                                               an answer before anything is put into it
+--   answered r a                                        the answer that is printed, of what an inner function answers and leaves: a picture, or a refusal
+use Rattle.std.specs.Prelude.{Bool, cond, ◌||◌, List, ◌++◌, ℕ, ◌*◌, ◌^◌, leb, ltb, ℤ, pos, get_or, take, replicate, Result, Ok, Err, ⊤}
 use Rattle.integers.specs.Units.{greatest_side, greatest_depth}
 use Rattle.tile.specs.declared.refusal.Refusal.{Refusal}
 use Rattle.tile.specs.Answers.{number_of}
@@ -20,7 +21,7 @@ use Rattle.frame_text.specs.Frames.{Frame}
 use Rattle.frame_text.specs.OutputLines.{refusal_text, rows_text, summary_text}
 use Rattle.frame_text.specs.Over.{over}
 use Rattle.frame.specs.declared.Answer.{Answer}
-use Rattle.frame.specs.Output.{zeros, table_length, outline_questions, frame_table, drawn_text, answer_of}
+use Rattle.frame.specs.Output.{zeros, table_length, outline_questions, frame_table, drawn_text, answer_length, answer_of}
 
 -- ---- the greys
 abbrev pub picture_size : ℕ → ℕ
@@ -79,6 +80,9 @@ level_refusal side points counts =
     let number = build_refusal side points counts (take (used_entries side) (replicate table_length (pos 0))) in if_done number 7 number
 
 -- ---- what is printed
-abbrev pub answered : Result Answer Refusal → Answer
-answered (Ok a) = a
-answered (Err r) = answer_of (refusal_text (number_of r))
+abbrev pub blank : Answer
+blank = record { bytes = zeros answer_length; len = 0 }
+
+abbrev pub answered : Result ⊤ Refusal → Answer → Answer
+answered (Ok _) a = a
+answered (Err r) _ = answer_of (refusal_text (number_of r))

@@ -5,13 +5,13 @@
 // into an answer.
 #![tactic(auto)]
 
-ghost use Rattle.std.specs.Prelude.{◌≡◌, ◌++◌, ◌*◌, ◌<◌, ◌≤◌, length, drop};
+ghost use Rattle.std.specs.Prelude.{◌≡◌, ◌++◌, ◌*◌, ◌<◌, ◌≤◌, length, drop, IsErr};
 ghost use Rattle.integers.specs.Units.{greatest_side};
 ghost use Rattle.accuracy.specs.Outline.{edge_count};
 ghost use Rattle.tile.specs.Answers.{number_of};
 ghost use Rattle.frame_text.specs.OutputLines.{refusal_text, summary_text, rows_text};
 ghost use Rattle.frame_text.specs.Frames.{frame};
-ghost use Rattle.frame.specs.Inner.{picture_size, table_text, used_entries, built_table, outline_text, frame_output, frame_table_after, is_deeper, level_refusal, answered};
+ghost use Rattle.frame.specs.Inner.{picture_size, table_text, used_entries, built_table, outline_text, frame_output, frame_table_after, is_deeper, level_refusal, answered, blank};
 ghost use Rattle.frame.specs.Output.{table_length, output_text, table_after, answer_of};
 ghost use Rattle.frame.specs.Printed.{Answered};
 
@@ -40,30 +40,25 @@ pub struct Answer {
 
 // ---- answers
 
+// The answer is lent to what writes it, blank, and handed back by none of them: it is long, and each hand would copy it.
+
 // A refusal's number has two decimal digits.
-fn refused(refusal: Refusal) -> Answer
-    ensures { result ≡ answer_of (refusal_text (number_of refusal)) }
+fn put_refused(answer: &mut Answer, refusal: Refusal)
+    requires { answer.old ≡ blank }
+    ensures { answer.new ≡ answer_of (refusal_text (number_of refusal)) }
 {
-    let mut bytes = [0u8; ANSWER_LENGTH];
-    printing::put_refusal(&mut bytes, refusal.number());
-    Answer {
-        bytes,
-        len: REFUSAL_LENGTH,
-    }
+    printing::put_refusal(&mut answer.bytes, refusal.number());
+    answer.len = REFUSAL_LENGTH;
 }
 
 // A picture with as many rows as each of them has greys.
-fn drawn(edges: u32, root: i64, greys: &[u8], across: usize) -> Answer
-    requires { (across ≤ greatest_side) × (across * across ≤ length greys.now) }
-    ensures { result ≡ answer_of (summary_text edges root ++ rows_text across across greys.now) }
+fn put_drawn(answer: &mut Answer, edges: u32, root: i64, greys: &[u8], across: usize)
+    requires { (answer.old ≡ blank) × (across ≤ greatest_side) × (across * across ≤ length greys.now) }
+    ensures { answer.new ≡ answer_of (summary_text edges root ++ rows_text across across greys.now) }
 {
-    let mut bytes = [0u8; ANSWER_LENGTH];
-    printing::put_summary(&mut bytes, edges, root);
-    printing::put_rows(&mut bytes[printing::SUMMARY_LENGTH..], greys, across);
-    Answer {
-        bytes,
-        len: printing::SUMMARY_LENGTH + across * (printing::GREY_WIDTH * across + 1),
-    }
+    printing::put_summary(&mut answer.bytes, edges, root);
+    printing::put_rows(&mut answer.bytes[printing::SUMMARY_LENGTH..], greys, across);
+    answer.len = printing::SUMMARY_LENGTH + across * (printing::GREY_WIDTH * across + 1);
 }
 
 // ---- drawing
@@ -82,18 +77,24 @@ fn picture_size(level: u32) -> usize
 // Side, level, points and counts come one by one, as the calls of `tile` take them: a struct of them would be made once and taken apart at each call.
 
 // The greys of a level, from the table that building left.
-fn draw_table(side: u32, level: u32, edges: u32, table: &[i64]) -> Result<Answer, Refusal>
-    ensures { answered result ≡ answer_of (table_text side level edges table.now) }
+fn draw_table(
+    side: u32,
+    level: u32,
+    edges: u32,
+    table: &[i64],
+    answer: &mut Answer,
+) -> Result<(), Refusal>
+    requires { answer.old ≡ blank }
+    ensures value { answered result answer.new ≡ answer_of (table_text side level edges table.now) }
+    ensures kept { IsErr result → answer.new ≡ answer.old }
 {
     let mut picture = [0u8; TABLE_LENGTH];
     let places = picture_size(level);
     tile::greys(side, level, table, &mut picture[..places])?;
-    Ok(drawn(
-        edges,
-        table[0],
-        &picture[..places],
-        haar::cells_across(level as usize),
-    ))
+    let root = table[0];
+    let across = haar::cells_across(level as usize);
+    put_drawn(answer, edges, root, &picture[..places], across);
+    Ok(())
 }
 
 // How many entries a tile's table has, of those that the program has: none where the side is out of range, which building then refuses.
@@ -113,13 +114,16 @@ fn draw_outline(
     points: &[i64],
     counts: &[u32],
     table: &mut [i64; TABLE_LENGTH],
-) -> Result<Answer, Refusal>
-    ensures value { answered result ≡ answer_of (outline_text (frame side level points.now counts.now) table.old) }
+    answer: &mut Answer,
+) -> Result<(), Refusal>
+    requires { answer.old ≡ blank }
+    ensures value { answered result answer.new ≡ answer_of (outline_text (frame side level points.now counts.now) table.old) }
     ensures table_after { table.new ≡ built_table (frame side level points.now counts.now) table.old ++ drop (used_entries side) table.old }
+    ensures kept { IsErr result → answer.new ≡ answer.old }
 {
     let n = used_entries(side);
     let edges = tile::build(side, points, counts, &mut table[..n])?;
-    draw_table(side, level, edges, &table[..n])
+    draw_table(side, level, edges, &table[..n], answer)
 }
 
 // Has the level more cells across than the side has pixels? Of a tile's side this is question 7's "no".
@@ -148,21 +152,29 @@ fn draw_frame(
     points: &[i64],
     counts: &[u32],
     table: &mut [i64; TABLE_LENGTH],
-) -> Result<Answer, Refusal>
-    requires { length points.now ≡ 2 * edge_count counts.now }
-    ensures value { answered result ≡ answer_of (frame_output (frame side level points.now counts.now)) }
+    answer: &mut Answer,
+) -> Result<(), Refusal>
+    requires { (answer.old ≡ blank) × (length points.now ≡ 2 * edge_count counts.now) }
+    ensures value { answered result answer.new ≡ answer_of (frame_output (frame side level points.now counts.now)) }
     ensures table_after { table.new ≡ frame_table_after (frame side level points.now counts.now) table.old }
+    ensures kept { IsErr result → answer.new ≡ answer.old }
 {
     if is_deeper(side, level) {
         return Err(refused_level(side, points, counts));
     }
-    draw_outline(side, level, points, counts, table)
+    draw_outline(side, level, points, counts, table, answer)
 }
 
 // What is printed of a text: of its frame, if it has the form of one.
-fn draw_text(text: &[u8], table: &mut [i64; TABLE_LENGTH]) -> Result<Answer, Refusal>
-    ensures value { answered result ≡ answer_of (output_text text.now) }
+fn draw_text(
+    text: &[u8],
+    table: &mut [i64; TABLE_LENGTH],
+    answer: &mut Answer,
+) -> Result<(), Refusal>
+    requires { answer.old ≡ blank }
+    ensures value { answered result answer.new ≡ answer_of (output_text text.now) }
     ensures table_after { table.new ≡ table_after text.now table.old }
+    ensures kept { IsErr result → answer.new ≡ answer.old }
 {
     if !reading::is_frame(text) {
         return Err(Refusal::Frame);
@@ -178,6 +190,7 @@ fn draw_text(text: &[u8], table: &mut [i64; TABLE_LENGTH]) -> Result<Answer, Ref
         &points[..p],
         &counts[..c],
         table,
+        answer,
     )
 }
 
@@ -189,8 +202,12 @@ pub fn draw(text: &[u8], table: &mut [i64; TABLE_LENGTH]) -> Answer
     ensures answered { Answered text.now result }
     ensures text_value { text.now ≡ text.now }
 {
-    match draw_text(text, table) {
-        Ok(answer) => answer,
-        Err(refusal) => refused(refusal),
+    let mut answer = Answer {
+        bytes: [0; ANSWER_LENGTH],
+        len: 0,
+    };
+    if let Err(refusal) = draw_text(text, table, &mut answer) {
+        put_refused(&mut answer, refusal);
     }
+    answer
 }

@@ -1,5 +1,5 @@
 -- The greys, or their refusal.
-use Rattle.std.proofs.Common.{◌≡◌, List, ◌++◌, ℕ, ◌*◌, ◌^◌, ◌≤◌, ℤ, pos, length, get_or, take, drop, sym, ◌∙◌, ap, ap₂, arith, length-append}
+use Rattle.std.proofs.Common.{◌≡◌, List, ◌++◌, ℕ, ◌*◌, ◌^◌, ◌≤◌, ℤ, pos, length, get_or, take, drop, sym, ◌∙◌, ap, ap₂, arith, rules, length-append}
 use lib.Seq.{take_at}
 use Rattle.std.proofs.lemmas.Result.{err_from_is_err_and}
 use Rattle.integers.proofs.Theorems.Bits.{field_is}
@@ -57,8 +57,8 @@ slice_bounds-greys-end c =
     let n = c.picture_size-places.result in
     sym (ap length (take-zeros n 4096 (places-le c.args.side c.args.level c.args.edges c.args.table.now c.picture_size-places.ensures)) ∙ zeros-length n)
 
-pub returns-in_err-greys : goal.returns-in_err-greys
-returns-in_err-greys c =
+pub returns-in_err-greys-clause-value : goal.returns-in_err-greys-clause-value
+returns-in_err-greys-clause-value c =
     let a = c.args in
     let e = refusal_said a.side a.level a.edges a.table.now c.picture_size-places.ensures _ c.in_err-greys.ensures.value in
     let p = err_from_is_err_and c.from_residual.result c.from_residual.ensures.1 in
@@ -76,33 +76,33 @@ slice_bounds-picture-end-2 c =
       left-length a.side a.level a.edges a.table.now c.picture_size-places.ensures c.in_ok-greys.ensures.value c.greys.ensures.picture_after,
     )
 
-pub slice_bounds-drawn-end : goal.slice_bounds-drawn-end
-slice_bounds-drawn-end c =
+pub slice_bounds-put_drawn-end : goal.slice_bounds-put_drawn-end
+slice_bounds-put_drawn-end c =
     let a = c.args in
     sym (picture-length a.side a.level a.edges a.table.now c.picture_size-places.ensures c.in_ok-greys.ensures.value c.greys.ensures.picture_after)
 
-pub cells_across-requires : goal.cells_across-requires
-cells_across-requires c = (all_drawn c.args.side c.args.level c.args.edges c.args.table.now c.picture_size-places.ensures c.in_ok-greys.ensures.value).level_le
+pub cells_across-across-requires : goal.cells_across-across-requires
+cells_across-across-requires c = (all_drawn c.args.side c.args.level c.args.edges c.args.table.now c.picture_size-places.ensures c.in_ok-greys.ensures.value).level_le
 
-pub drawn-requires : goal.drawn-requires
-drawn-requires c =
+pub put_drawn-requires : goal.put_drawn-requires
+put_drawn-requires c =
     let a = c.args in
     let d = all_drawn a.side a.level a.edges a.table.now c.picture_size-places.ensures c.in_ok-greys.ensures.value in
     let e = picture-is a.side a.level a.edges a.table.now c.picture_size-places.ensures c.in_ok-greys.ensures.value c.greys.ensures.picture_after in
-    let n = c.cells_across.ensures in
-    (omega (arith, n, d.across-le), omega (arith, ap₂ ◌*◌ n n ∙ d.rows ∙ sym (ap length e)))
+    let n = c.cells_across-across.ensures in
+    (c.requires, omega (arith, n, d.across-le), omega (arith, ap₂ ◌*◌ n n ∙ d.rows ∙ sym (ap length e)))
 
-pub returns : goal.returns
-returns c =
+pub returns-clause-value : goal.returns-clause-value
+returns-clause-value c =
     let a = c.args in
     let places = c.picture_size-places.result in
     let left = c.greys.new.picture in
     let z = c.in_ok-greys.ensures.value in
     let e = picture-is a.side a.level a.edges a.table.now c.picture_size-places.ensures z c.greys.ensures.picture_after in
-    let n = c.cells_across.ensures in
-    c.drawn.ensures
+    let n = c.cells_across-across.ensures in
+    c.put_drawn.ensures
     ∙ ap answer_of
     (ap₂ (λ text k. text ++ rows_text k k (take places (left ++ drop places (zeros 4096))))
-    (ap (summary_text a.edges) (field_is _ c.drawn-arg-1.given)) n
+    (ap (summary_text a.edges) (field_is _ (search rules))) n
     ∙ ap (λ l. summary_text a.edges (get_or a.table.now 0 (pos 0)) ++ rows_text (2 ^ a.level) (2 ^ a.level) l) e
     ∙ sym (if_done_lem (picture_text a.side a.level a.edges a.table.now) (refusal_text (draw_number a.side a.level a.table.now)) (done a.side a.level a.edges a.table.now c.picture_size-places.ensures z)))

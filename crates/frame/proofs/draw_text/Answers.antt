@@ -85,7 +85,7 @@ draw_frame-requires c =
     let t = c.args.text.now in
     let is = sym c.is_frame.ensures ∙ c.if-not-is_frame.false in
     let r = c.read_contours-size.ensures in
-    writable t is (frame_read t is (part_is 5 t) r.value r.points_after r.counts_after c.side_of.ensures c.level_of.ensures)
+    (c.requires, writable t is (frame_read t is (part_is 5 t) r.value r.points_after r.counts_after c.side_of.ensures c.level_of.ensures))
 
 pub returns-clause-value : goal.returns-clause-value
 returns-clause-value c =

@@ -5,13 +5,14 @@
 --   digit_value_le                         and no byte stands for more than 16
 --   decimal_digit, letter_digit            the number of a digit, by ranges of bytes
 --   no_digit_low, no_digit_between, no_digit_high  and no other byte has one
+--   is_decimal_digit, is_letter_digit, is_no_digit_low, is_no_digit_between, is_no_digit_high  whether it is a digit, by the same ranges
 --   counted_value                          a byte that is no digit counts for 16
 --   hex-length, hex-digits                 so many digits, and digits
 --   value_append                           digits after digits
 --   value_hex                              the digits of a number stand for it
 --   hex_value_lem                          the digits of what digits stand for are these
 --   value_lt                               what n digits stand for is below 16^n
-use Rattle.std.specs.Prelude.{◌≡◌, ℕ, zero, suc, ◌+◌, ◌-◌, ◌*◌, ◌/◌, ◌%◌, ◌^◌, ◌<◌, ◌≤◌, Bool, true, false, cond, ◌&&◌, Some, None, List, [], ◌∷◌, ◌++◌, length, ◌==◌, nat_eq, nat_lt, slice_index, refl}
+use Rattle.std.specs.Prelude.{◌≡◌, ℕ, zero, suc, ◌+◌, ◌-◌, ◌*◌, ◌/◌, ◌%◌, ◌^◌, ◌<◌, ◌≤◌, Bool, true, false, cond, ◌&&◌, Some, None, is_some, List, [], ◌∷◌, ◌++◌, length, ◌==◌, nat_eq, nat_lt, slice_index, refl}
 use Rattle.std.proofs.Common.{sym, ◌∙◌, ap, ap₂, subst, append_assoc, append-nil, mod-lt, div-lt_iff_lt-mul, add-zero, mod-eq_of_lt, arith, length-append, eqb-true, ltb-true, ltb-false, lt-ltb, le-ltb, unwrap_or}
 use Rattle.std.proofs.Math.Path.{subst⁻¹}
 use Rattle.std.proofs.Math.Nat.{div-add-mod, pow-succ', mul-add-div, mul-add-mod_self_left, div-eq_of_lt}
@@ -88,6 +89,36 @@ pub no_digit_high : (b : ℕ) → 103 ≤ b → b < 256 → digit_or_none b ≡ 
 no_digit_high b h k =
     let e : by_ranges b ≡ 16 = simp (le-ltb b 48 (omega arith), le-ltb b 58 (omega arith), le-ltb b 97 (omega arith), le-ltb b 103 h) in
     none b (by_ranges-is b k ∙ e)
+
+-- whether a byte is a digit, by the same ranges
+shown : {n : ℕ} (b : ℕ) → digit_or_none b ≡ Some n → is_digit b ≡ true
+shown {n} b e = go (is_digit b) e
+  where
+    go : (t : Bool) → cond t (Some (digit_value b)) None ≡ Some n → t ≡ true
+    go true e = refl
+    go false e = ap is_some e
+
+hidden : (b : ℕ) → digit_or_none b ≡ None → is_digit b ≡ false
+hidden b e = go (is_digit b) e
+  where
+    go : (t : Bool) → cond t (Some (digit_value b)) None ≡ None → t ≡ false
+    go true e = ap is_some e
+    go false e = refl
+
+pub is_decimal_digit : (b : ℕ) → 48 ≤ b → b < 58 → is_digit b ≡ true
+is_decimal_digit b h k = shown b (decimal_digit b h k)
+
+pub is_letter_digit : (b : ℕ) → 97 ≤ b → b < 103 → is_digit b ≡ true
+is_letter_digit b h k = shown b (letter_digit b h k)
+
+pub is_no_digit_low : (b : ℕ) → b < 48 → is_digit b ≡ false
+is_no_digit_low b h = hidden b (no_digit_low b h)
+
+pub is_no_digit_between : (b : ℕ) → 58 ≤ b → b < 97 → is_digit b ≡ false
+is_no_digit_between b h k = hidden b (no_digit_between b h k)
+
+pub is_no_digit_high : (b : ℕ) → 103 ≤ b → b < 256 → is_digit b ≡ false
+is_no_digit_high b h k = hidden b (no_digit_high b h k)
 
 -- where a byte that is no digit counts for 16, every byte counts for its number
 pub counted_value : (b : ℕ) → unwrap_or (digit_or_none b) 16 ≡ digit_value b

@@ -17,8 +17,9 @@ use Rattle.frame_text.proofs.Laws.Printing.{summary_length_lem, rows_text_length
 use Rattle.frame_text.proofs.Laws.Parts.{part_over, part_length}
 use Rattle.frame.specs.declared.Answer.{Answer}
 use Rattle.frame.specs.Output.{zeros}
+use Rattle.frame.specs.Inner.{blank}
 use Rattle.frame.proofs.Laws.Output.{zeros-length}
-use Rattle.frame.proofs.drawn.Goals as goal
+use Rattle.frame.proofs.put_drawn.Goals as goal
 
 -- 64 rows of 129 bytes are the most
 rows-room : (across : ℕ) → across ≤ 64 → across * (2 * across + 1) ≤ 8256
@@ -45,23 +46,24 @@ module _ (n edges : ℕ) (root : ℤ) (old head : List ℕ) (long : 21 ≤ n) (z
       ∙ part_over 21 head text (r ∙ ap (λ i. over text (take i (drop 21 head))) m)
       ∙ written 0 (summary_text edges root) text old h (omega arith) next
 
--- the root as it was given
-root-back : (edges : ℕ) {root : ℤ} → SFits w64 root → over (summary_text edges (to_z w64 (of_z w64 root))) (zeros 8277) ≡ over (summary_text edges root) (zeros 8277)
-root-back edges r = ap (λ z. over (summary_text edges z) (zeros 8277)) (to_z-of_z r)
+-- the root as it was given, over the bytes of a blank answer
+root-back : (edges : ℕ) {root : ℤ} → SFits w64 root → {a : Answer} → a ≡ blank
+    → over (summary_text edges (to_z w64 (of_z w64 root))) a.bytes ≡ over (summary_text edges root) (zeros 8277)
+root-back edges r e = ap₂ (λ z a. over (summary_text edges z) a.bytes) (to_z-of_z r) e
 
 pub put_rows-requires : goal.put_rows-requires
 put_rows-requires c =
     let s = c.args in
-    let room = part_room 8277 s.edges s.root (zeros 8277) c.put_summary.new.out (omega arith) (zeros-length 8277) (c.put_summary.ensures ∙ root-back s.edges c.ranges.root) 8256 refl in
-    (c.requires.0, c.requires.1, omega (arith, room, rows-room s.across c.requires.0))
+    let room = part_room 8277 s.edges s.root (zeros 8277) c.put_summary.new.out (omega arith) (zeros-length 8277) (c.put_summary.ensures ∙ root-back s.edges c.ranges.root c.requires.0) 8256 refl in
+    (c.requires.1, c.requires.2, omega (arith, room, rows-room s.across c.requires.1))
 
 pub returns : goal.returns
 returns c =
     let s = c.args in
     let rows = rows_text s.across s.across s.greys.now in
     ap₂ answer
-    (all-written 8277 s.edges s.root (zeros 8277) c.put_summary.new.out (omega arith) (zeros-length 8277) (c.put_summary.ensures ∙ root-back s.edges c.ranges.root) 8256 refl rows
+    (all-written 8277 s.edges s.root (zeros 8277) c.put_summary.new.out (omega arith) (zeros-length 8277) (c.put_summary.ensures ∙ root-back s.edges c.ranges.root c.requires.0) 8256 refl rows
     c.put_rows.new.out c.put_rows.ensures)
     (sym
     (length-append (summary_text s.edges s.root) rows
-    ∙ omega (arith, summary_length_lem s.edges s.root, rows_text_length s.across s.across s.greys.now c.requires.1)))
+    ∙ omega (arith, summary_length_lem s.edges s.root, rows_text_length s.across s.across s.greys.now c.requires.2)))
