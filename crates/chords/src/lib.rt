@@ -11,26 +11,26 @@
 //
 #![tactic(auto)]
 
-ghost use Rattle.std.specs.Prelude.{◌≡◌, ◌*◌, ◌≤◌, cond, length};
+ghost use Rattle.std.specs.Prelude.{◌≡◌, ◌*◌, ◌≤◌, length};
 ghost use Rattle.integers.specs.Units.{most_points};
 ghost use Rattle.integers.specs.ListSum.{All};
 ghost use Rattle.curve.specs.Curve.{OnSheet};
-ghost use Rattle.accuracy.specs.Outline.{edge_count};
+ghost use Rattle.accuracy.specs.Outline.{point_at, edge_count};
 ghost use Rattle.placement.specs.Coordinates.{coordinates};
 ghost use Rattle.rasterize.specs.Added.{added};
 ghost use Rattle.rasterize.specs.Ready.{Fits};
 ghost use Rattle.rasterize.specs.Views.{InView};
 ghost use Rattle.rasterize.specs.Laws.Sums.{edges_part};
 ghost use Rattle.chords.specs.declared.Side.TheVariants.{Curved};
-ghost use Rattle.chords.specs.Sides.{marked_contours};
+ghost use Rattle.chords.specs.Sides.{curve_between, marked_contours};
 ghost use Rattle.chords.specs.Chords.{chords_of, contour_chords, outline_chords};
 ghost use Rattle.chords.specs.Inner.{capped_chords, curve_of};
-ghost use Rattle.chords.specs.Marked.{is_straight, side_by, contour_of};
+ghost use Rattle.chords.specs.Marked.{contour_of};
 ghost use Rattle.chords.specs.Laws.SidesWithin.{SideWithin};
 
 use curved::Chords;
 use edge::Edge;
-use marked::{Mark, MarkedPoints};
+use marked::MarkedPoints;
 use placement::Point;
 use placement::points::PlacedPoints;
 use rasterize::Pass;
@@ -98,30 +98,20 @@ fn add_side(table: &mut [i64], side: Side, pass: Pass)
 
 // ---- the sides of a contour
 
-// The side with that mark that begins at the first of the points, and ends at `end`. A curve's control point is the second of them.
-fn side_to(points: &PlacedPoints, mark: Mark, end: Point) -> Side
-    requires { cond (is_straight mark) 2 4 ≤ length (coordinates points.now) }
-    ensures { result ≡ side_by (is_straight mark) (coordinates points.now) (record { x = end.x; y = end.y }) }
+// The curve that begins at the first of the points, and ends at `end`. Its control point is the second of them.
+fn curve_to(points: &PlacedPoints, end: Point) -> Curve
+    requires { 4 ≤ length (coordinates points.now) }
+    ensures { result ≡ curve_between (point_at (coordinates points.now) 0) (point_at (coordinates points.now) 1) (record { x = end.x; y = end.y }) }
 {
     let from = points.point(0);
-    match mark {
-        Mark::Straight => Side::Straight(Edge {
-            x0: from.x,
-            y0: from.y,
-            x1: end.x,
-            y1: end.y,
-        }),
-        Mark::Curved => {
-            let control = points.point(1);
-            Side::Curved(Curve {
-                x0: from.x,
-                y0: from.y,
-                cx: control.x,
-                cy: control.y,
-                x1: end.x,
-                y1: end.y,
-            })
-        }
+    let control = points.point(1);
+    Curve {
+        x0: from.x,
+        y0: from.y,
+        cx: control.x,
+        cy: control.y,
+        x1: end.x,
+        y1: end.y,
     }
 }
 

@@ -1,20 +1,19 @@
 // The sides of a contour, one after the other.
 #![tactic(auto)]
 
-ghost use Rattle.std.specs.Prelude.{◌≤◌, length};
-ghost use Rattle.placement.specs.Coordinates.{coordinates};
-ghost use Rattle.chords.specs.Sides.{numbers};
+ghost use Rattle.std.specs.Prelude.{◌≡◌, ◌*◌, ◌-◌, drop};
+ghost use Rattle.placement.specs.Coordinates.{coordinates, point_count};
 
 use crate::Side;
 use crate::marked::{Mark, MarkedPoints};
 use placement::points::PlacedPoints;
 
-// The sides that are still to come are those of `left`. The last one ends where the contour begins.
+// The sides that are still to come are those of `left`, whose points are the contour's last. The last side ends where the contour begins.
 #[derive(Drop)]
 pub struct Sides<'p, 'm> {
     contour: PlacedPoints<'p>,
     left: MarkedPoints<'p, 'm>,
-    ghost begun: { numbers left.marks.now ≤ length (coordinates contour) },
+    ghost begun: { coordinates left.points ≡ drop (2 * (point_count contour - point_count left.points)) (coordinates contour) },
 }
 
 impl<'p, 'm> Sides<'p, 'm> {
@@ -39,15 +38,26 @@ impl<'p, 'm> Sides<'p, 'm> {
         if self.left.marks.is_empty() {
             return None;
         }
-        let points = self.left.points;
         let mark = Mark::from(self.left.marks[0]);
-        let (_, others) = self.left.split_at(1);
-        let end = if others.marks.is_empty() {
-            self.contour.point(0)
-        } else {
-            others.points.point(0)
+        let (_, marks) = self.left.marks.split_at(1);
+        let (_, points) = self.left.points.split_at(mark.points());
+        let side = match mark {
+            // It is an edge of the contour, so that where it ends is said in one place.
+            Mark::Straight => {
+                let n = self.contour.count();
+                let k = n - self.left.points.count();
+                Side::Straight(contours::edge_from(&self.contour, n, k))
+            }
+            Mark::Curved => {
+                let end = if marks.is_empty() {
+                    self.contour.point(0)
+                } else {
+                    points.point(0)
+                };
+                Side::Curved(crate::curve_to(&self.left.points, end))
+            }
         };
-        self.left = others;
-        Some(crate::side_to(&points, mark, end))
+        self.left = MarkedPoints { points, marks };
+        Some(side)
     }
 }

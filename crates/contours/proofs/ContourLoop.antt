@@ -4,6 +4,7 @@
 --   ContourLoop                                       the first k edges are added
 --   contour_start, contour_step, contour_end          none, some more, all
 --   contour_asks, contour_edge                        what the next edge asks for: room, and to be in view
+--   of_all                                            the edge among the first n points, where these are all
 --   edges_one, contour_one                            what one edge adds
 --   once                                              with the sign 1 what is added is itself
 use mathlib.Core.Path.{◌≡◌, sym, ◌∙◌, ap, subst⁻¹}
@@ -42,6 +43,9 @@ edges_one view depth points k i =
     let f : ℕ → ℤ = λ u. edge_entry view depth points i (k + u) in
     let here : k + 0 ≡ k = omega arith in
     Σ-suc 0 f ∙ ap (λ z. z +ℤ f 0) (Σ-zero f) ∙ ring (f 0 ∷ []) (search read depth 40) tt ∙ ap (edge_entry view depth points i) here
+
+pub of_all : (points : List ℤ) (k : ℕ) {e : Edge} {n : ℕ} → e ≡ edge_of points n k → n ≡ length points / 2 → e ≡ edge_of points (length points / 2) k
+of_all points k w h = w ∙ ap (λ n. edge_of points n k) h
 
 -- `before` is the table before the first edge
 module _ (view : View) (depth : ℕ) (sign : ℤ) (points before : List ℤ) where

@@ -26,12 +26,11 @@ use edge::{Details, Edge};
 use placement::points::PlacedPoints;
 use rasterize::{Pass, Spot, View};
 
-// The edge from (x, y), which is point k as placed, to the next point; from the last, to the first.
-fn edge_to_next(points: &PlacedPoints, k: usize, x: i64, y: i64) -> Edge
-    requires { (k < point_count points.now) × (x ≡ (point_at (coordinates points.now) k).x) × (y ≡ (point_at (coordinates points.now) k).y) }
-    ensures { result ≡ edge_of (coordinates points.now) (point_count points.now) k }
+// The edge from (x, y), which is point k of a contour's n points, as placed, to the next one; from the last, to the first.
+fn edge_to_next(points: &PlacedPoints, n: usize, k: usize, x: i64, y: i64) -> Edge
+    requires { (k < n) × (n ≤ point_count points.now) × (x ≡ (point_at (coordinates points.now) k).x) × (y ≡ (point_at (coordinates points.now) k).y) }
+    ensures { result ≡ edge_of (coordinates points.now) n k }
 {
-    let n = points.count();
     let next = if k + 1 < n { k + 1 } else { 0 };
     let to = points.point(next);
     Edge {
@@ -42,13 +41,13 @@ fn edge_to_next(points: &PlacedPoints, k: usize, x: i64, y: i64) -> Edge
     }
 }
 
-// The edge from point k of a contour, as placed, to the next point; from the last, to the first.
-pub fn edge_from(points: &PlacedPoints, k: usize) -> Edge
-    requires { k < point_count points.now }
-    ensures { result ≡ edge_of (coordinates points.now) (point_count points.now) k }
+// The edge from point k of a contour's n points, as placed, to the next one; from the last, to the first.
+pub fn edge_from(points: &PlacedPoints, n: usize, k: usize) -> Edge
+    requires { (k < n) × (n ≤ point_count points.now) }
+    ensures { result ≡ edge_of (coordinates points.now) n k }
 {
     let from = points.point(k);
-    edge_to_next(points, k, from.x, from.y)
+    edge_to_next(points, n, k, from.x, from.y)
 }
 
 // ---- runs
@@ -208,7 +207,8 @@ fn add_along(
     requires { RunReady table.old (coordinates points.now) depth k c × (first ≡ edge_of (coordinates points.now) (point_count points.now) k) }
     ensures { Along depth (coordinates points.now) k c table.old table.new result × (k < result.next) }
 {
-    let end = k + (points.count() - k).min(LONGEST_RUN);
+    let n = points.count();
+    let end = k + (n - k).min(LONGEST_RUN);
     let mut r = Run {
         next: k,
         x: first.x0,
@@ -216,7 +216,7 @@ fn add_along(
         sum: 0,
     };
     for next in k..end {
-        let e = edge_to_next(points, next, r.x, r.y);
+        let e = edge_to_next(points, n, next, r.x, r.y);
         if !is_on_cell(e.x1, e.y1, c) {
             return r;
         }
@@ -260,7 +260,7 @@ fn add_some(table: &mut [i64], points: &PlacedPoints, k: usize, depth: usize) ->
     requires { NextReady Alone table.old (coordinates points.now) depth k × (run_levels ≤ depth) }
     ensures { (0 < result) × (k + result ≤ point_count points.now) × (table.new ≡ added table.old (edges_from Alone depth (coordinates points.now) k result)) }
 {
-    let e = edge_from(points, k);
+    let e = edge_from(points, points.count(), k);
     let c = cell_from(e, depth);
     if is_cell(c) && lies_on_cell(e, c) {
         return add_run(table, points, k, e, c, depth);
@@ -301,8 +301,9 @@ pub fn add_contour(table: &mut [i64], points: &PlacedPoints, pass: Pass)
     if has_runs(pass) {
         return add_in_runs(table, points, pass.depth);
     }
-    for k in 0..points.count() {
-        rasterize::add_edge(table, edge_from(points, k), pass);
+    let n = points.count();
+    for k in 0..n {
+        rasterize::add_edge(table, edge_from(points, n, k), pass);
     }
 }
 

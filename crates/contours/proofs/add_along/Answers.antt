@@ -21,6 +21,7 @@ use Rattle.contours.specs.Contour.{edge_of}
 use Rattle.contours.specs.Runs.{longest_run, run_square, RunReady, chord_of, Along}
 use Rattle.contours.specs.Laws.RunCells.{SmallEdge, on_cell_small}
 use Rattle.contours.proofs.CellTests.{on_back}
+use Rattle.contours.proofs.ContourLoop.{of_all}
 use Rattle.contours.proofs.RunLoop.{run_measured, along_start, along_starts, along_on, along_small, along_asks, along-step}
 use Rattle.contours.proofs.add_along.Goals as goal
 
@@ -84,6 +85,7 @@ edge_to_next-e-requires c =
     let h : c.loop-next.r.next < point_count c.args.points.now = omega arith in
     let points = coordinates c.args.points.now in (
       omega arith,
+      omega (arith, c.count-n.ensures),
       starts_x c.requires.0 l.along h ∙ ap (λ j. (point_at points j).x) l.is_next,
       starts_y c.requires.0 l.along h ∙ ap (λ j. (point_at points j).y) l.is_next,
     )
@@ -98,7 +100,7 @@ pub returns-then-not-is_on_cell : goal.returns-then-not-is_on_cell
 returns-then-not-is_on_cell c =
     let l = c.loop-next.invariant in
     let h : c.loop-next.r.next < point_count c.args.points.now = omega arith in
-    let w = c.edge_to_next-e.ensures ∙ ap (edge_of (coordinates c.args.points.now) (point_count c.args.points.now)) (sym l.is_next) in
+    let w = of_all (coordinates c.args.points.now) c.loop-next.next c.edge_to_next-e.ensures c.count-n.ensures ∙ ap (edge_of (coordinates c.args.points.now) (point_count c.args.points.now)) (sym l.is_next) in
     let out = moved_on c.requires.0 l.along h w (off_cell c.requires.0 l.along h w c.is_on_cell.ensures c.if-not-is_on_cell.true) in
     (l.along, lt_of_le_of_ne l.along.from out)
 
@@ -106,19 +108,19 @@ pub add_within-requires : goal.add_within-requires
 add_within-requires c =
     let l = c.loop-next.invariant in
     let h : c.loop-next.r.next < point_count c.args.points.now = omega arith in
-    let w = c.edge_to_next-e.ensures ∙ ap (edge_of (coordinates c.args.points.now) (point_count c.args.points.now)) (sym l.is_next) in
+    let w = of_all (coordinates c.args.points.now) c.loop-next.next c.edge_to_next-e.ensures c.count-n.ensures ∙ ap (edge_of (coordinates c.args.points.now) (point_count c.args.points.now)) (sym l.is_next) in
     along_asks c.requires.0 l.along h w (on_cell c.requires.0 l.along h w c.is_on_cell.ensures c.if-not-is_on_cell.false)
 
 pub root_term-requires : goal.root_term-requires
 root_term-requires c =
     let h : c.loop-next.next < point_count c.args.points.now = omega arith in
-    run_measured c.requires.0 h c.edge_to_next-e.ensures
+    run_measured c.requires.0 h (of_all (coordinates c.args.points.now) c.loop-next.next c.edge_to_next-e.ensures c.count-n.ensures)
 
 pub overflow_add-r-in-loop-next : goal.overflow_add-r-in-loop-next
 overflow_add-r-in-loop-next c =
     let l = c.loop-next.invariant in
     let h : c.loop-next.r.next < point_count c.args.points.now = omega arith in
-    let w = c.edge_to_next-e.ensures ∙ ap (edge_of (coordinates c.args.points.now) (point_count c.args.points.now)) (sym l.is_next) in
+    let w = of_all (coordinates c.args.points.now) c.loop-next.next c.edge_to_next-e.ensures c.count-n.ensures ∙ ap (edge_of (coordinates c.args.points.now) (point_count c.args.points.now)) (sym l.is_next) in
     let o = on_cell c.requires.0 l.along h w c.is_on_cell.ensures c.if-not-is_on_cell.false in
     held_fits tt (sum c.requires.0 l.along h w o (result_is c.root_term.type_inv c.root_term.ensures))
 
@@ -126,7 +128,7 @@ pub loop-next-preserved : goal.loop-next-preserved
 loop-next-preserved c =
     let l = c.loop-next.invariant in
     let h : c.loop-next.r.next < point_count c.args.points.now = omega arith in
-    let w = c.edge_to_next-e.ensures ∙ ap (edge_of (coordinates c.args.points.now) (point_count c.args.points.now)) (sym l.is_next) in
+    let w = of_all (coordinates c.args.points.now) c.loop-next.next c.edge_to_next-e.ensures c.count-n.ensures ∙ ap (edge_of (coordinates c.args.points.now) (point_count c.args.points.now)) (sym l.is_next) in
     let o = on_cell c.requires.0 l.along h w c.is_on_cell.ensures c.if-not-is_on_cell.false in
     let m = measured c.requires.0 l.along h w in
     let s = sum c.requires.0 l.along h w o (result_is c.root_term.type_inv c.root_term.ensures) in
