@@ -5,7 +5,8 @@
 --   test_none, test_some         whether there are any
 --   end_first, end_next          where the last side ends, and where another one does
 --   enough, enough_for           there are coordinates where there is a mark, and those of the first mark's side
---   Last, behind, last_next      the coordinates that are left are the contour's last; how many come before them; so are those after the next side
+--   Last, last_all, behind,
+--   last_next                    the coordinates that are left are the contour's last; all are; how many come before them; so are those after the next side
 --   numbers_first                the first mark's numbers, and those of the others
 --   straight_next                a straight side is the contour's edge from its point
 --   chords_next, chords_counted  its edges, and those of the sides after it

@@ -1,7 +1,6 @@
 -- All points of the contour are left.
-use Rattle.placement.specs.Coordinates.{coordinates}
 use Rattle.chords.proofs.NextSide.{last_all}
 use Rattle.chords.proofs.sides.Sides.of.Goals as goal
 
 pub invariant_of-result : goal.invariant_of-result
-invariant_of-result c = record { begun = last_all (coordinates c.args.contour.now.points) }
+invariant_of-result c = record { begun = last_all _ }
