@@ -16,5 +16,5 @@ mod table;
 fn main(rt: HostRuntime) -> io::Result<()> {
     let mut buf = [0u8; INPUT_LIMIT];
     let n = read_full(&mut rt.stdin(), &mut buf);
-    read::read_all(&mut rt.stdout(), rt.alloc(), &buf[..n])
+    read::read_all(&mut rt.stdout(), &buf[..n])
 }

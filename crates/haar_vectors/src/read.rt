@@ -1,9 +1,8 @@
 // The cases, from the program's text, and what is printed of them.
-ghost use Rattle.std.specs.Prelude.{◌<◌, length, IfSome};
+ghost use Rattle.std.specs.Prelude.{◌<◌, ◌≤◌, length, IfSome};
 
 use super::number::{entry_of, index_of};
-use super::table::{GREATEST_DEPTH, Table};
-use std::alloc::{AllocError, Global};
+use super::table::{GREATEST_DEPTH, MOST, Table, cells};
 use std::io::{Result, Write};
 use vector_print::numbers;
 
@@ -41,35 +40,51 @@ fn put_word(table: &mut Table, word: &[u8], next: usize) -> Option<usize> {
     place.checked_add(1)
 }
 
-// The table of a line after its name, where it is one: its depth and its entries. An entry that is not given is 0.
-fn table_of(alloc: Global, words: &[u8]) -> std::result::Result<Option<Table>, AllocError> {
+// Reads the table of a line after its name, where it is one: its depth and its entries. An entry that is not given is 0.
+fn read_table(table: &mut Table, words: &[u8]) -> Option<()> {
     let mut words = words.split(|b| *b == b' ');
-    let Some(depth) = words.next().and_then(|word| index_of(word)) else {
-        return Ok(None);
-    };
+    let depth = index_of(words.next()?)?;
     if GREATEST_DEPTH < depth {
-        return Ok(None);
+        return None;
     }
-    let mut table = Table::blank(alloc, depth)?;
+    table.clear(depth);
     let mut next = 0;
     for word in words {
-        let Some(after) = put_word(&mut table, word, next) else {
-            return Ok(None);
-        };
-        next = after;
+        next = put_word(table, word, next)?;
     }
-    Ok(Some(table))
+    Some(())
 }
 
-fn show_table<W: Write>(out: &mut W, alloc: Global, table: &Table) -> Result<()> {
+// The figures of a level, and the same figures, each asked for alone.
+fn show_figures<W: Write>(out: &mut W, table: &Table, level: usize) -> Result<()>
+    requires { level ≤ table.now.depth }
+{
+    let mut room = [0i64; MOST];
+    let picture = &mut room[..cells(level)];
+    write!(out, "{level} figures")?;
+    table.figures(level, picture);
+    numbers(out, picture)?;
+    write!(out, "{level} alone  ")?;
+    table.figures_alone(level, picture);
+    numbers(out, picture)
+}
+
+// A function of its own, so that the stack has one kind of picture at a time.
+fn show_greys<W: Write>(out: &mut W, table: &Table, level: usize) -> Result<()>
+    requires { level ≤ table.now.depth }
+{
+    let mut room = [0u8; MOST];
+    let picture = &mut room[..cells(level)];
+    write!(out, "{level} greys  ")?;
+    table.greys(level, picture);
+    numbers(out, picture)
+}
+
+fn show_table<W: Write>(out: &mut W, table: &Table) -> Result<()> {
     writeln!(out)?;
     for level in 0..=table.depth {
-        write!(out, "{level} figures")?;
-        numbers(out, &table.figures(alloc, level)?)?;
-        write!(out, "{level} alone  ")?;
-        numbers(out, &table.figures_alone(alloc, level)?)?;
-        write!(out, "{level} greys  ")?;
-        numbers(out, &table.greys(alloc, level)?)?;
+        show_figures(out, table, level)?;
+        show_greys(out, table, level)?;
     }
     Ok(())
 }
@@ -132,12 +147,12 @@ fn first_word(line: &[u8]) -> (&[u8], &[u8]) {
 }
 
 // A line with its end, or what comes after the last one, of which no more than the first word is printed. Bytes 0 before the first word are printed, and after
-// them there is no table.
+// them there is no table. That there is one stands beside it: an Option would hold its 4,096 entries itself, and copy them at each line.
 fn read_line<W: Write>(
     out: &mut W,
-    alloc: Global,
     line: &[u8],
-    table: &mut Option<Table>,
+    table: &mut Table,
+    there: &mut bool,
 ) -> Result<()> {
     let (line, ended) = match line.strip_suffix(b"\n") {
         Some(line) => (line, true),
@@ -146,7 +161,7 @@ fn read_line<W: Write>(
     let (zeros, line) = line.split_at(line.iter().position(|b| *b != 0).unwrap_or(line.len()));
     out.write_all(zeros)?;
     if !zeros.is_empty() {
-        *table = None;
+        *there = false;
     }
     let Some(kind) = kind_of(line) else {
         return Ok(());
@@ -160,28 +175,33 @@ fn read_line<W: Write>(
         return Ok(());
     }
     match kind {
-        Kind::Cell => match table.as_ref().and_then(|table| cell_of(table, words)) {
-            Some(cell) => show_cell(out, cell),
-            None => refuse(out),
-        },
-        Kind::Table => {
-            *table = table_of(alloc, words)?;
-            match table {
-                Some(table) => show_table(out, alloc, table),
+        Kind::Cell => {
+            let cell = if *there { cell_of(table, words) } else { None };
+            match cell {
+                Some(cell) => show_cell(out, cell),
                 None => refuse(out),
             }
         }
+        Kind::Table => {
+            *there = read_table(table, words).is_some();
+            if *there {
+                show_table(out, table)
+            } else {
+                refuse(out)
+            }
+        }
         Kind::Wrong => {
-            *table = None;
+            *there = false;
             refuse(out)
         }
     }
 }
 
-pub fn read_all<W: Write>(out: &mut W, alloc: Global, text: &[u8]) -> Result<()> {
-    let mut table = None;
+pub fn read_all<W: Write>(out: &mut W, text: &[u8]) -> Result<()> {
+    let mut table = Table::blank();
+    let mut there = false;
     for line in text.split_inclusive(|b| *b == b'\n') {
-        read_line(out, alloc, line, &mut table)?;
+        read_line(out, line, &mut table, &mut there)?;
     }
     Ok(())
 }

@@ -1,5 +1,5 @@
 // A table, and all that is asked of `haar`.
-ghost use Rattle.std.specs.Prelude.{◌≡◌, ◌^◌, ◌≤◌, IfOk, vec_len};
+ghost use Rattle.std.specs.Prelude.{◌≡◌, ◌^◌, ◌≤◌, length};
 ghost use Rattle.integers.specs.Units.{greatest_depth};
 ghost use Rattle.haar.specs.Cells.{children};
 ghost use Rattle.haar.specs.Plane.{dimensions};
@@ -7,23 +7,26 @@ ghost use Rattle.haar.specs.Drawable.{Drawable};
 
 use haar::grey::grey_of;
 use haar::{cells_across, figure_at, figures, greys};
-use std::alloc::{AllocError, Global};
 
 pub const GREATEST_DEPTH: usize = 6;
+
+// 4^6: the entries of the deepest table, and the cells of its deepest level.
+pub const MOST: usize = 4096;
 
 // 2^40: what an entry may be at most.
 const LIMIT: i64 = 1 << 40;
 
-// A table of a depth, which can be drawn down to it.
+// A table of a depth, which can be drawn down to it. The list has room for the deepest one, so that there is no heap; past the table's own entries it holds
+// what the tables before left there, and nothing reads it.
 #[derive(Drop)]
 pub struct Table {
     pub depth: usize,
-    entries: Vec<i64>,
-    ghost drawable: { Drawable entries.items depth },
+    entries: [i64; MOST],
+    ghost drawable: { Drawable entries depth },
 }
 
 // How many cells a level has, and how many entries a table of that depth has.
-fn cells(level: usize) -> usize
+pub fn cells(level: usize) -> usize
     requires { level ≤ greatest_depth }
     ensures { result ≡ children dimensions ^ level }
 {
@@ -32,17 +35,25 @@ fn cells(level: usize) -> usize
 }
 
 impl Table {
-    // All entries 0.
-    pub fn blank(alloc: Global, depth: usize) -> Result<Table, AllocError>
+    // Of depth 0, its entry 0.
+    pub fn blank() -> Table {
+        Table {
+            depth: 0,
+            entries: [0; MOST],
+        }
+    }
+
+    // Makes it one of another depth, all entries 0.
+    pub fn clear(&mut self, depth: usize)
         requires { depth ≤ greatest_depth }
     {
-        let entries = vec![in alloc; 0; cells(depth)]?;
-        Ok(Table { depth, entries })
+        self.depth = depth;
+        self.entries = [0; MOST];
     }
 
     // Stores an entry, where it has a place and is in range.
     pub fn put(&mut self, place: usize, entry: i64) -> Option<()> {
-        if place < self.entries.len() && (-LIMIT..=LIMIT).contains(&entry) {
+        if place < cells(self.depth) && (-LIMIT..=LIMIT).contains(&entry) {
             self.entries[place] = entry;
             Some(())
         } else {
@@ -50,20 +61,16 @@ impl Table {
         }
     }
 
-    pub fn figures(&self, alloc: Global, level: usize) -> Result<Vec<i64>, AllocError>
-        requires { level ≤ self.now.depth }
+    pub fn figures(&self, level: usize, picture: &mut [i64])
+        requires { (level ≤ self.now.depth) × (length picture.old ≡ children dimensions ^ level) }
     {
-        let mut picture = vec![in alloc; 0; cells(level)]?;
-        figures(&self.entries, level, &mut picture);
-        Ok(picture)
+        figures(&self.entries, level, picture);
     }
 
-    pub fn greys(&self, alloc: Global, level: usize) -> Result<Vec<u8>, AllocError>
-        requires { level ≤ self.now.depth }
+    pub fn greys(&self, level: usize, picture: &mut [u8])
+        requires { (level ≤ self.now.depth) × (length picture.old ≡ children dimensions ^ level) }
     {
-        let mut picture = vec![in alloc; 0; cells(level)]?;
-        greys(&self.entries, self.depth, level, &mut picture);
-        Ok(picture)
+        greys(&self.entries, self.depth, level, picture);
     }
 
     // The figure of one cell, where there is such a cell.
@@ -79,18 +86,20 @@ impl Table {
         }
     }
 
-    // The same as `figures`, each asked for alone.
-    pub fn figures_alone(&self, alloc: Global, level: usize) -> Result<Vec<i64>, AllocError>
+    // The same as `figures`, each asked for alone. What the picture held goes first, so that a cell that is not asked for shows.
+    pub fn figures_alone(&self, level: usize, picture: &mut [i64])
         requires { level ≤ self.now.depth }
     {
-        let mut alone = Vec::new(alloc);
+        picture.fill(0);
         let n = cells_across(level);
+        let mut places = picture.iter_mut();
         for y in 0..n {
             for x in 0..n {
-                alone.push(figure_at(&self.entries, level, x, y))?;
+                if let Some(place) = places.next() {
+                    *place = figure_at(&self.entries, level, x, y);
+                }
             }
         }
-        Ok(alone)
     }
 
     pub fn grey_of(&self, figure: i64) -> u8 {

@@ -1,52 +1,57 @@
 // What the calls are given, as the lines of the program's text set it.
+ghost use Rattle.std.specs.Iterator.{IsFinite};
+
 use super::calls::{Drawn, show_all, show_build, show_cell, show_figures, show_greys};
 use super::text::{number_of, word_of};
-use std::alloc::Global;
 use std::io::{Result, Write};
 
-// Each list has room for more than a tile of side 64 takes.
+// Each list has room for more than a tile of side 64 takes: there is no heap. What a line has more is passed over.
 const ROOM: usize = 4100;
 
 #[derive(Drop)]
 pub struct Given {
-    alloc: Global,
     side: u32,
     level: u32,
-    points: Vec<i64>,
-    counts: Vec<u32>,
+    points: [i64; ROOM],
+    counts: [u32; ROOM],
     table: [i64; ROOM],
     figures: [i64; ROOM],
     greys: [u8; ROOM],
+    // How many points and counts there are.
+    coordinates: usize,
+    contours: usize,
     // How much of the table a call gets.
     entries: usize,
     // How much of a picture.
     places: usize,
 }
 
+// Puts values into a list from a place on, as many as it has room for there. Answers how many.
+fn put<T: Copy, I: Iterator<Item = T>>(list: &mut [T], first: usize, values: I) -> usize
+    requires { I.can_next values × IsFinite (I.remaining values) }
+{
+    let mut n = 0usize;
+    for (place, v) in list.iter_mut().skip(first).zip(values) {
+        *place = v;
+        n = n.saturating_add(1);
+    }
+    n
+}
+
 impl Given {
-    pub fn new(alloc: Global) -> Given {
+    pub fn new() -> Given {
         Given {
-            alloc,
             side: 0,
             level: 0,
-            points: Vec::new(alloc),
-            counts: Vec::new(alloc),
+            points: [0; ROOM],
+            counts: [0; ROOM],
             table: [0; ROOM],
             figures: [0; ROOM],
             greys: [0; ROOM],
+            coordinates: 0,
+            contours: 0,
             entries: 0,
             places: 0,
-        }
-    }
-
-    // Entries of the table, from the first number on.
-    fn put(&mut self, numbers: &[i64]) {
-        let Some((first, values)) = numbers.split_first() else {
-            return;
-        };
-        let first = word_of(*first) as usize;
-        for (entry, v) in self.table.iter_mut().skip(first).zip(values) {
-            *entry = *v;
         }
     }
 
@@ -60,26 +65,34 @@ impl Given {
         let Some(kind) = line.first() else {
             return Ok(());
         };
-        let numbers: Vec<i64> = line
+        // Each number is worked out where the letter asks for it: a comment costs none.
+        let mut numbers = line
             .split(|b| *b == b' ')
             .skip(1)
             .take(ROOM)
-            .map(|word| number_of(word))
-            .collect(self.alloc)?;
-        let number = numbers.first().copied().unwrap_or(0);
-        let first = word_of(number);
-        let second = word_of(numbers.get(1).copied().unwrap_or(0));
+            .map(|word| number_of(word));
         match *kind {
             b'#' => {}
-            b's' => self.side = first,
-            b'l' => self.level = first,
-            b'n' => self.entries = first as usize,
-            b'r' => self.places = first as usize,
-            b'p' => self.points = numbers,
-            b'c' => self.counts = numbers.iter().map(|v| word_of(*v)).collect(self.alloc)?,
-            b't' => self.put(&numbers),
-            b'f' => self.fill(number),
-            kind => self.show(out, kind, first, second)?,
+            b'p' => self.coordinates = put(&mut self.points, 0, numbers),
+            b'c' => self.contours = put(&mut self.counts, 0, numbers.map(|v| word_of(v))),
+            kind => {
+                let number = numbers.next().unwrap_or(0);
+                let first = word_of(number);
+                match kind {
+                    b's' => self.side = first,
+                    b'l' => self.level = first,
+                    b'n' => self.entries = first as usize,
+                    b'r' => self.places = first as usize,
+                    b't' => {
+                        put(&mut self.table, first as usize, numbers);
+                    }
+                    b'f' => self.fill(number),
+                    kind => {
+                        let second = word_of(numbers.next().unwrap_or(0));
+                        self.show(out, kind, first, second)?;
+                    }
+                }
+            }
         }
         Ok(())
     }
@@ -91,12 +104,16 @@ impl Given {
         let entries = self.entries.min(ROOM);
         let places = self.places.min(ROOM);
         // An array in a field is lent whole first: its part alone is not covered.
+        let points = &self.points[..];
+        let points = &points[..self.coordinates.min(ROOM)];
+        let counts = &self.counts[..];
+        let counts = &counts[..self.contours.min(ROOM)];
         let table = &mut self.table[..];
         let table = &mut table[..entries];
         let figures = &mut self.figures[..];
         let greys = &mut self.greys[..];
         match kind {
-            b'b' => show_build(out, side, &self.points, &self.counts, table),
+            b'b' => show_build(out, side, points, counts, table),
             b'd' => show_figures(out, Drawn { side, level, table }, &mut figures[..places]),
             b'g' => show_greys(out, Drawn { side, level, table }, &mut greys[..places]),
             b'k' => show_cell(out, Drawn { side, level, table }, cx, cy),

@@ -24,10 +24,11 @@ mod text;
 use given::Given;
 
 fn main(rt: HostRuntime) -> io::Result<()> {
+    // Made before the input is read: after it, its lists were cleared twice.
+    let mut given = Given::new();
     let mut text = [0u8; INPUT_LIMIT];
     let n = read_full(&mut rt.stdin(), &mut text);
     let mut out = rt.stdout();
-    let mut given = Given::new(rt.alloc());
     for line in text[..n].split(|b| *b == b'\n') {
         given.read_line(&mut out, line)?;
     }

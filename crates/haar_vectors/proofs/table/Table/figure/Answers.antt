@@ -5,4 +5,4 @@ use Rattle.haar_vectors.proofs.table.Table.figure.Goals as goal
 
 pub figure_at-requires : goal.figure_at-requires
 figure_at-requires c =
-    rw c.deref.ensures.value (level_cell c.args.self.now.drawable (search rules) c.cells_across-n.ensures c.if-x-n.true c.if-y-n.true)
+    level_cell c.args.self.now.drawable (search rules) c.cells_across-n.ensures c.if-x-n.true c.if-y-n.true

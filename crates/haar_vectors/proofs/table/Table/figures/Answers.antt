@@ -1,7 +1,6 @@
 -- The picture has as many places as the level has cells.
-use Rattle.std.proofs.Common.{rules}
 use Rattle.haar_vectors.proofs.Tables.{level_picture}
 use Rattle.haar_vectors.proofs.table.Table.figures.Goals as goal
 
 pub figures-requires : goal.figures-requires
-figures-requires c = rw c.deref.ensures.value (level_picture c.args.self.now.drawable c.requires (search rules))
+figures-requires c = level_picture c.args.self.now.drawable c.requires.0 c.requires.1

@@ -4,4 +4,4 @@ use Rattle.haar_vectors.proofs.table.Table.figures_alone.Goals as goal
 
 pub figure_at-requires : goal.figure_at-requires
 figure_at-requires c =
-    rw c.deref.ensures.value (level_cell c.args.self.now.drawable c.requires c.cells_across-n.ensures c.loop-x-test.true c.loop-y-test.true)
+    level_cell c.args.self.now.drawable c.requires c.cells_across-n.ensures c.loop-x-test.true c.loop-y-test.true
